@@ -1,0 +1,12 @@
+-- What everything means. Read in this order.
+pub mod Limits
+pub mod Answers
+pub mod Values
+pub mod Places
+pub mod Objects
+pub mod Slide
+pub mod Words
+pub mod Blocks
+pub mod Collect
+pub mod Lookups
+pub mod Cases

@@ -1,0 +1,1 @@
+// Nothing runs here: specs/ says what everything means, proofs/ what follows from it.

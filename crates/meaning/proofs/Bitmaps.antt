@@ -3,7 +3,7 @@ use mathlib.Core.Path.{_≡_, refl, sym, ap, ap₂, _∙_, subst}
 use mathlib.Core.Bool.{Bool, true, false, cond}
 use mathlib.Core.Logic.{⊎-elim}
 use mathlib.Core.List.{List, [], _∷_, map}
-use Prim.Native.Nat.{ℕ, zero, suc, _+_, _-_, _*_, _/_, _%_, _^_, _≤_, _<_}
+use Prim.Native.Nat.{ℕ, zero, suc, _+_, _*_, _/_, _%_, _^_, _≤_, _<_}
 use native.Mathlib.Nat.{add-zero, add-suc, suc-add, div-one, zero-div, zero-lt-suc, pow-suc}
 use native.Mathlib.Numerals.{add-one, one-add}
 use native.Mathlib.Omega.{arith}
@@ -14,8 +14,8 @@ use lib.Pow.{shr-shr, shr-lt}
 use lib.Seq.{ext-getD}
 use borrow.Author.Tests.{eq-eqb, ne-eqb, eqb-true, eqb-false}
 use Rattle.meaning.specs.Limits.{blockWords}
-use Rattle.meaning.specs.Places.{placesFrom, below, upTo, bitOf, bitSet, marked, bitsFrom, bitmap}
-use Rattle.meaning.proofs.Deciding.{le-or-lt, eq-or-ne, clash}
+use Rattle.meaning.specs.Places.{below, upTo, bitOf, bitSet, marked, bitsFrom, bitmap}
+use Rattle.meaning.proofs.Deciding.{le-or-lt, clash}
 use Rattle.meaning.proofs.Counting.{length-upTo, getD-upTo, below-shift}
 
 -- ## One word, over any number of bits
@@ -84,7 +84,7 @@ module _ (t : ℕ → Bool) where
 pub length-table : (f : ℕ → ℕ) (n : ℕ) → length (map f (upTo n)) ≡ n
 length-table f n = length-map (upTo n) f ∙ length-upTo n
 
-getD-map : (f : ℕ → ℕ) (l : List ℕ) (i : ℕ) → i < length l → getD (map f l) i 0 ≡ f (getD l i 0)
+pub getD-map : (f : ℕ → ℕ) (l : List ℕ) (i : ℕ) → i < length l → getD (map f l) i 0 ≡ f (getD l i 0)
 getD-map f [] i h = absurd (omega arith)
 getD-map f (x ∷ l) zero h = refl
 getD-map f (x ∷ l) (suc i) h = getD-map f l i (omega arith)

@@ -35,6 +35,16 @@ module _ (t : ℕ → Bool) where
   places-none p zero a = refl
   places-none p (suc n) a = rw (rw add-zero at (a 0 (omega arith))) (places-none (suc p) n (λ k h. rw (suc-add, ← add-suc p k) (a (suc k) (omega arith))))
 
+  pub places-empty : (p n : ℕ) → placesFrom t p n ≡ [] → (k : ℕ) → k < n → t (p + k) ≡ false
+  places-empty p zero e k h = absurd (omega arith)
+  places-empty p (suc n) e k h = go (t p) refl e k h (places-empty (suc p) n)
+    where
+      go : (b : Bool) → t p ≡ b → consIf b p (placesFrom t (suc p) n) ≡ [] → (k : ℕ) → k < suc n
+          → (placesFrom t (suc p) n ≡ [] → (k : ℕ) → k < n → t (suc p + k) ≡ false) → t (p + k) ≡ false
+      go true q e k h ih = absurd (let z : _≡_ {A = ℕ} 0 1 = cc in omega arith)
+      go false q e zero h ih = rw add-zero q
+      go false q e (suc k) h ih = rw (add-suc, ← suc-add p k) (ih e k (omega arith))
+
   -- all pass, or none
   pub places-count : (b : Bool) (p n : ℕ) → ((k : ℕ) → k < n → t (p + k) ≡ b) → length (placesFrom t p n) ≡ cond b n 0
   places-count true p zero a = refl

@@ -3,12 +3,12 @@
 use Prim.Native.Nat.{ℕ, zero, suc, _+_, _*_, _-_, _/_, _<_, min}
 use mathlib.Core.Path.{_≡_}
 use mathlib.Core.Logic.{_≢_}
-use mathlib.Core.Bool.{Bool, true, false, not, _&&_, _||_, cond}
+use mathlib.Core.Bool.{Bool, false, not, _&&_, _||_, cond}
 use mathlib.Core.List.{List, [], _∷_, _++_, map}
 use lib.ListN.{length, getD, take, drop, set}
 use lib.Dec.{ltb, eqb}
 use Rattle.meaning.specs.Limits.{blockWords, blocksOf}
-use Rattle.meaning.specs.Places.{placesFrom, upTo, isIn}
+use Rattle.meaning.specs.Places.{placesFrom, isIn}
 
 -- live words number a to a + n - 1 go to their new places one after the other, each read from the heap as it is then
 unfoldable pub moves : List ℕ → ℕ → ℕ → List ℕ → List ℕ

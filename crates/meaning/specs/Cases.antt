@@ -1,13 +1,13 @@
 -- Cases P1 to P12: the number, what the case gives, and what it should give.
-use Prim.Native.Nat.{ℕ, zero, suc, _+_, _*_, _-_, _%_}
+use Prim.Native.Nat.{ℕ, zero, suc, _*_, _-_, _%_}
 use mathlib.Core.Bool.{Bool, true, false}
 use mathlib.Core.List.{List, [], _∷_, _++_}
 use lib.ListN.{replicate}
 use lib.IntN.{pos, negsuc}
-use Rattle.meaning.specs.Answers.{Answer, gives, refused}
+use Rattle.meaning.specs.Answers.{gives, refused}
 use Rattle.meaning.specs.Values.{Value, int, nilWord, valueOf, refTo}
 use Rattle.meaning.specs.Objects.{Object, rec, raw, encode, legalHeader}
-use Rattle.meaning.specs.Collect.{Totals, After, collect}
+use Rattle.meaning.specs.Collect.{After, collect}
 
 pub data Fact : Type 0 where
   value : Value → Fact

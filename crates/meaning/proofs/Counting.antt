@@ -1,7 +1,7 @@
--- Places that pass a test: how many stand below a place, and which is number j. Assumes nothing.
-use mathlib.Core.Path.{_≡_, refl, sym, ap, ap₂, _∙_}
+-- Places that pass a test: how many stand below a place, which is number j, and which the lowest. Assumes nothing.
+use mathlib.Core.Path.{_≡_, refl, sym, ap, ap₂, _∙_, subst}
 use mathlib.Core.Bool.{Bool, true, false, cond}
-use mathlib.Core.Logic.{⊎-elim}
+use mathlib.Core.Logic.{⊎-elim, _≢_}
 use mathlib.Core.List.{List, [], _∷_, _++_, map}
 use Prim.Native.Nat.{ℕ, zero, suc, _+_, _-_, _≤_, _<_}
 use native.Mathlib.Nat.{add-zero, zero-add, add-suc, suc-add}
@@ -10,7 +10,7 @@ use native.Mathlib.Omega.{arith}
 use lib.ListN.{length, getD, length-append}
 use lib.Seq.{getD-append-seam}
 use Rattle.meaning.specs.Places.{consIf, placesFrom, below, src, upTo}
-use Rattle.meaning.proofs.Deciding.{le-or-lt}
+use Rattle.meaning.proofs.Deciding.{le-or-lt, true-or-false}
 
 -- ## A stretch of places
 module _ (t : ℕ → Bool) where
@@ -140,9 +140,39 @@ module _ (t : ℕ → Bool) where
       ⊎-elim (λ (h : p ≤ q). ⊎-elim (λ (g : q ≤ p). omega arith) (λ (g : p < q). absurd (omega (arith, below-lt p q g ep))) (le-or-lt q p))
       (λ (h : q < p). absurd (omega (arith, below-lt q p h eq))) (le-or-lt p q)
 
+  -- as many as there are places, so all of them
+  pub below-full : (n : ℕ) → below t n ≡ n → (p : ℕ) → p < n → t p ≡ true
+  below-full n e p h =
+      ⊎-elim
+      (λ passes. passes)
+      (λ fails. let q : suc p + (n - suc p) ≡ n = omega arith in absurd (omega (arith, ap (below t) q, below-near (suc p) (n - suc p), below-stay p fails, below-few p)))
+      (true-or-false (t p))
+
+  pub full-below : (n : ℕ) → ((p : ℕ) → p < n → t p ≡ true) → below t n ≡ n
+  unfolding below
+  full-below n a = places-count t true 0 n (λ k h. rw zero-add (a k h))
+
 pub below-same : (t u : ℕ → Bool) (n : ℕ) → ((p : ℕ) → p < n → t p ≡ u p) → below t n ≡ below u n
 unfolding below
 below-same t u n a = ap length (places-same t u 0 n (λ k h. rw zero-add (a k h)))
+
+-- one place more that passes
+pub below-more : (t u : ℕ → Bool) (n x : ℕ) → x < n → t x ≡ false → u x ≡ true → ((p : ℕ) → p ≢ x → u p ≡ t p) → below u n ≡ suc (below t n)
+below-more t u n x h fails passes a =
+    let k : ℕ = n - suc x in
+    let e : suc x + k ≡ n = omega arith in
+    let past : length (placesFrom u (suc x) k) ≡ length (placesFrom t (suc x) k) = places-shift u t (suc x) (suc x) k (λ i l. a (suc x + i) (λ q. omega arith)) in
+    omega (
+      arith,
+      ap (below u) e,
+      ap (below t) e,
+      below-split u (suc x) k,
+      below-split t (suc x) k,
+      past,
+      below-next u x passes,
+      below-stay t x fails,
+      below-same u t x (λ p l. a p (λ q. omega arith)),
+    )
 
 -- a stretch counts like the same stretch begun at 0
 pub below-shift : (t u : ℕ → Bool) (p n : ℕ) → ((k : ℕ) → k < n → t (p + k) ≡ u k) → below t (p + n) ≡ below t p + below u n
@@ -183,6 +213,41 @@ module _ (t : ℕ → Bool) where
   src-at n q h e =
       ap (λ (l : List ℕ). getD l (length (placesFrom t 0 q)) 0) (ap (placesFrom t 0) (let g : n ≡ q + suc (n - suc q) = omega arith in g) ∙ places-split t 0 q (suc (n - suc q)))
       ∙ rw (zero-add, e) (getD-append-seam (placesFrom t 0 q) q (placesFrom t (suc q) (n - suc q)) 0)
+
+-- ## The lowest
+-- i is the lowest place that passes, and below n
+pub record Lowest (t : ℕ → Bool) (n i : ℕ) : Type 0 where
+  pub within : i < n
+  pub passes : t i ≡ true
+  pub before : (k : ℕ) → k < i → t k ≡ false
+
+module _ (t : ℕ → Bool) where
+  none-below : (n : ℕ) → below t n ≡ 0 → (p : ℕ) → p < n → t p ≡ false
+  none-below n e p h = ⊎-elim (λ passes. absurd (omega (arith, below-lt t p n h passes))) (λ fails. fails) (true-or-false (t p))
+
+  pub none-passes : (n : ℕ) → placesFrom t 0 n ≡ [] → (p : ℕ) → p < n → t p ≡ false
+  unfolding below
+  none-passes n e = none-below n (ap length e)
+
+  pub lowest-is : (n i : ℕ) (rest : List ℕ) → placesFrom t 0 n ≡ i ∷ rest → Lowest t n i
+  unfolding below src
+  lowest-is n i rest e =
+      let h : 0 < below t n = omega (arith, ap length e) in
+      let s : src t n 0 ≡ i = ap (λ (l : List ℕ). getD l 0 0) e in
+      subst (Lowest t n) s
+      (record {
+        within = src-within t n 0 h;
+        passes = src-live t n 0 h;
+        before = none-below (src t n 0) (src-below t n 0 h);
+      })
+
+  pub is-lowest : (n i : ℕ) → Lowest t n i → (rest : List ℕ) × (placesFrom t 0 n ≡ i ∷ rest)
+  is-lowest n i w =
+      let e : n ≡ i + suc (n - suc i) = omega (arith, w .within) in (
+        placesFrom t (suc i) (n - suc i),
+        ap (placesFrom t 0) e ∙ places-split t 0 i (suc (n - suc i))
+            ∙ rw (places-none t 0 i (λ k l. rw zero-add (w .before k l)), zero-add, w .passes),
+      )
 
 -- ## 0 to n - 1
 pub length-upTo : (n : ℕ) → length (upTo n) ≡ n

@@ -50,3 +50,9 @@ or-right false b e = e
 pub or-none : (a b : Bool) → a || b ≡ false → (a ≡ false) × (b ≡ false)
 or-none true b e = absurd (true≢false e)
 or-none false b e = (refl, e)
+
+-- two tests that fail together are one
+pub same-test : (a b : Bool) → (a ≡ false → b ≡ false) → (b ≡ false → a ≡ false) → a ≡ b
+same-test true true f g = refl
+same-test true false f g = g refl
+same-test false b f g = sym (f refl)

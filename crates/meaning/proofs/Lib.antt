@@ -1,13 +1,19 @@
 -- The theorems, in files named after what they say.
 pub mod Deciding
 pub mod Counting
+pub mod Membership
 pub mod Bitmaps
 pub mod ParseEncode
 pub mod ByObjects
 pub mod ByWords
 pub mod Bridge
 pub mod SlidHeap
-pub mod LateFixing
 pub mod ChecksPassed
+pub mod LateFixing
 pub mod LookupsInverse
+pub mod BlockMoves
+pub mod TooEarly
+pub mod OrderJudged
+pub mod TwoTargets
+pub mod BlocksSlide
 pub mod CasesHold

@@ -1,5 +1,6 @@
 -- The theorems, in files named after what they say.
 pub mod Deciding
+pub mod ValueWords
 pub mod Counting
 pub mod Membership
 pub mod Bitmaps

@@ -1,0 +1,2 @@
+-- What follows from the promises of the functions.
+pub mod Settled

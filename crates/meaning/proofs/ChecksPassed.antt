@@ -5,19 +5,18 @@ use mathlib.Core.Bool.{Bool, true, false, not, _&&_}
 use mathlib.Core.Logic.{⊎-elim}
 use mathlib.Core.List.{List, [], _∷_}
 use Prim.Native.Nat.{ℕ, _+_, _*_, _≤_, _<_}
-use native.Mathlib.Nat.{zero-add}
 use native.Mathlib.Omega.{arith}
 use lib.ListN.{length, getD}
 use borrow.Author.Tests.{not-false}
 use Rattle.meaning.specs.Limits.{blockWords}
 use Rattle.meaning.specs.Answers.{Answer, gives, refuse}
 use Rattle.meaning.specs.Values.{isRef, placeOf}
-use Rattle.meaning.specs.Places.{placesFrom, marked}
+use Rattle.meaning.specs.Places.{marked}
 use Rattle.meaning.specs.Objects.{Object, Parsed, all, bad, parse}
 use Rattle.meaning.specs.Slide.{headerAt, fieldAt}
 use Rattle.meaning.specs.Collect.{dangling, strays, badRoots, badFields, judged, checked}
 use Rattle.meaning.proofs.Deciding.{true-or-false, clash}
-use Rattle.meaning.proofs.Counting.{places-empty, places-none}
+use Rattle.meaning.proofs.Counting.{places-none, none-passes}
 use Rattle.meaning.proofs.Bitmaps.{marked-in}
 use Rattle.meaning.proofs.Bridge.{RefsFound, field-low}
 
@@ -52,14 +51,11 @@ module _ (heap : List ℕ) (top : ℕ) (roots marks : List ℕ) (os : List Objec
       rw (← same)
       (record {
         parsed = q;
-        at-headers = λ p h. and-not _ _ (at0 _ _ (a .0) p (marked-in marks p h)) h;
-        roots-marked = λ i l h. and-not _ _ (at0 _ _ (b .0) i l) h;
-        fields-marked = λ p l f h. and-not _ _ (rest f (at0 _ _ (c .0) p l)) h;
+        at-headers = λ p h. and-not _ _ (none-passes _ _ (a .0) p (marked-in marks p h)) h;
+        roots-marked = λ i l h. and-not _ _ (none-passes _ _ (b .0) i l) h;
+        fields-marked = λ p l f h. and-not _ _ (rest f (none-passes _ _ (c .0) p l)) h;
       })
     where
-      at0 : (t : ℕ → Bool) (n : ℕ) → placesFrom t 0 n ≡ [] → (k : ℕ) → k < n → t k ≡ false
-      at0 t n e k h = rw zero-add at (places-empty t 0 n e k h)
-
       rest : {a b : Bool} → a ≡ true → a && b ≡ false → b ≡ false
       rest {a} {b} f e = rw f at e
 

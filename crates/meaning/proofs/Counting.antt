@@ -35,15 +35,9 @@ module _ (t : ℕ → Bool) where
   places-none p zero a = refl
   places-none p (suc n) a = rw (rw add-zero at (a 0 (omega arith))) (places-none (suc p) n (λ k h. rw (suc-add, ← add-suc p k) (a (suc k) (omega arith))))
 
-  pub places-empty : (p n : ℕ) → placesFrom t p n ≡ [] → (k : ℕ) → k < n → t (p + k) ≡ false
-  places-empty p zero e k h = absurd (omega arith)
-  places-empty p (suc n) e k h = go (t p) refl e k h (places-empty (suc p) n)
-    where
-      go : (b : Bool) → t p ≡ b → consIf b p (placesFrom t (suc p) n) ≡ [] → (k : ℕ) → k < suc n
-          → (placesFrom t (suc p) n ≡ [] → (k : ℕ) → k < n → t (suc p + k) ≡ false) → t (p + k) ≡ false
-      go true q e k h ih = absurd (let z : _≡_ {A = ℕ} 0 1 = cc in omega arith)
-      go false q e zero h ih = rw add-zero q
-      go false q e (suc k) h ih = rw (add-suc, ← suc-add p k) (ih e k (omega arith))
+  -- the first that passes is the first of them
+  pub places-first : (p n k : ℕ) → ((i : ℕ) → i < n → t (p + i) ≡ false) → t (p + n) ≡ true → placesFrom t p (n + suc k) ≡ (p + n) ∷ placesFrom t (suc (p + n)) k
+  places-first p n k a e = places-split p n (suc k) ∙ rw (places-none p n a, e)
 
   -- all pass, or none
   pub places-count : (b : Bool) (p n : ℕ) → ((k : ℕ) → k < n → t (p + k) ≡ b) → length (placesFrom t p n) ≡ cond b n 0
@@ -245,8 +239,7 @@ module _ (t : ℕ → Bool) where
   is-lowest n i w =
       let e : n ≡ i + suc (n - suc i) = omega (arith, w .within) in (
         placesFrom t (suc i) (n - suc i),
-        ap (placesFrom t 0) e ∙ places-split t 0 i (suc (n - suc i))
-            ∙ rw (places-none t 0 i (λ k l. rw zero-add (w .before k l)), zero-add, w .passes),
+        ap (placesFrom t 0) e ∙ (rw zero-add at (places-first t 0 i (n - suc i) (λ k l. rw zero-add (w .before k l)) (rw zero-add (w .passes)))),
       )
 
 -- ## 0 to n - 1

@@ -51,8 +51,11 @@ pub or-none : (a b : Bool) → a || b ≡ false → (a ≡ false) × (b ≡ fals
 or-none true b e = absurd (true≢false e)
 or-none false b e = (refl, e)
 
--- two tests that fail together are one
-pub same-test : (a b : Bool) → (a ≡ false → b ≡ false) → (b ≡ false → a ≡ false) → a ≡ b
-same-test true true f g = refl
-same-test true false f g = g refl
-same-test false b f g = sym (f refl)
+-- two tests that are v together are one
+pub same-test : (v a b : Bool) → (a ≡ v → b ≡ v) → (b ≡ v → a ≡ v) → a ≡ b
+same-test true true b f g = sym (f refl)
+same-test true false true f g = g refl
+same-test true false false f g = refl
+same-test false false b f g = sym (f refl)
+same-test false true false f g = g refl
+same-test false true true f g = refl

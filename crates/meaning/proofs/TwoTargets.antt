@@ -114,5 +114,5 @@ module _ (t : ℕ → Bool) (n : ℕ) (top : (p : ℕ) → t p ≡ true → p < 
   -- two offset entries tell whether a step is too early
   pub early-two : earlyFrom done b 0 (placesFrom t 0 n) ≡ earlyBy (offsetEntry t b) (offsetEntry t (b + 1)) done b
   early-two =
-      same-test (earlyFrom done b 0 (placesFrom t 0 n)) byEntries
+      same-test false (earlyFrom done b 0 (placesFrom t 0 n)) byEntries
       (λ e. ready-by (not-early-ready done b (placesFrom t 0 n) e)) (λ e. ready-not-early done b (placesFrom t 0 n) (by-ready e))

@@ -1,0 +1,2 @@
+-- What the contracts of `bits` add to the notions of `meaning`.
+pub mod Ranges

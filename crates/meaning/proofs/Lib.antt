@@ -10,6 +10,7 @@ pub mod ByWords
 pub mod Bridge
 pub mod SlidHeap
 pub mod ChecksPassed
+pub mod MarkedObjects
 pub mod Walking
 pub mod LateFixing
 pub mod LookupsInverse

@@ -1,0 +1,2 @@
+-- Laws that the proofs of the functions use, and what follows from the promises.
+pub mod Judging

@@ -1,0 +1,3 @@
+-- What the contracts of `objects` add to the notions of `meaning`.
+pub mod Survey
+pub mod Examined

@@ -14,7 +14,7 @@ use borrow.Author.Tests.{leb-true, ltb-true, le-leb, lt-ltb}
 use Rattle.meaning.specs.Limits.{blockWords}
 use Rattle.meaning.specs.Places.{bitSet, marked}
 use Rattle.meaning.proofs.Deciding.{le-or-lt, eq-or-ne, clash, same-test, and-both, both-and, or-one, or-left, or-right}
-use Rattle.meaning.proofs.Bitmaps.{Fit, is-bitmap, marked-bitmap}
+use Rattle.meaning.proofs.Bitmaps.{Fit, marked-out, length-bitmap, is-bitmap, marked-bitmap}
 use Rattle.bits.specs.Ranges.{endOf, between, Gains, setRange}
 use Rattle.bits.proofs.Words.{bit-shr, bit-within, bit-or, shl-low, shl-high, bit-ones}
 
@@ -97,3 +97,14 @@ gains-all m after from at to e f h l g =
 pub marked-range : (m : List ℕ) (from to q : ℕ) → q < endOf m → marked (setRange m from to) q ≡ marked m q || between from to q
 unfolding setRange
 marked-range m from to q h = marked-bitmap (λ q. marked m q || between from to q) (length m) q h
+
+length-range : (m : List ℕ) (from to : ℕ) → length (setRange m from to) ≡ length m
+unfolding setRange
+length-range m from to = length-bitmap (λ q. marked m q || between from to q) (length m)
+
+pub gains-range : (m : List ℕ) (from to : ℕ) → to ≤ endOf m → Gains m (setRange m from to) from to
+gains-range m from to h q = ⊎-elim
+    (λ (l : endOf m ≤ q).
+    marked-out (setRange m from to) q (rw length-range l) ∙ sym (marked-out m q l) ∙ adds-none (marked m q) from to q (λ b. omega arith))
+    (λ (l : q < endOf m). marked-range m from to q l)
+    (le-or-lt (endOf m) q)

@@ -117,7 +117,7 @@ fn fill_word(word: u64, i: u32, k: u32) -> u64
 }
 
 // Places at .. at + k - 1, all in one word, marked too.
-fn set_part(map: &mut [u64], at: usize, k: usize)
+pub fn set_part(map: &mut [u64], at: usize, k: usize)
     requires { ⌜ (0 < k) × (at % blockWords + k ≤ blockWords) × (at < endOf (now map)) ⌝ }
     ensures { λ _. ⌜ Gains (now (map .entry)) (now (map .exit)) at (at + k) ⌝ }
 {

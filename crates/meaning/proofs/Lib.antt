@@ -19,4 +19,5 @@ pub mod TooEarly
 pub mod OrderJudged
 pub mod TwoTargets
 pub mod BlocksSlide
+pub mod CollectedHeap
 pub mod CasesHold

@@ -1,2 +1,3 @@
 -- Laws that the proofs of the functions use, and what follows from the promises.
+pub mod WalkLaws
 pub mod Judging

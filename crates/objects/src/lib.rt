@@ -1,4 +1,5 @@
 // The walk over the objects, and the check of heap, roots and marks.
+pub mod walk;
 
 // What checks 2 to 5 say: the heap is sound, or a refusal's number and place.
 pub enum Judged {

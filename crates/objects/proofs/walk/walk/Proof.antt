@@ -1,0 +1,89 @@
+-- `objects::walk::walk` meets its contract. At each turn the objects before `p` are sound and noted. Assumes nothing.
+use borrow.Author.Needs.{needs}
+use borrow.Author.Tests.{not-true, not-false}
+use mathlib.Core.Path.{refl, sym, _∙_}
+use Prim.Native.Nat.{_-_}
+use native.Mathlib.Omega.{arith}
+use Rattle.meaning.specs.Places.{marked}
+use Rattle.meaning.proofs.Walking.{walking-illegal, walking-past}
+use Rattle.objects.proofs.WalkLaws.{Surveyed, surveyed-start, surveyed-next, surveyed-stop, surveyed-end}
+use Rattle.objects.proofs.walk.walk.Statement.{statement}
+use Rattle.objects.proofs.walk.walk.Tie as tie
+
+abbrev Inv-objects : tie.InvT-objects
+Inv-objects heap top marks headers₀ words₀ fields₀ p₀ headers words fields p = Surveyed heap top (marked marks) p headers words fields
+
+abbrev μ-objects : tie.MeasureT-objects
+μ-objects heap top marks headers₀ words₀ fields₀ p₀ headers words fields p = top - p
+
+objects-holds : tie.Need-objects-holds Inv-objects μ-objects
+objects-holds c = surveyed-start (c .before .before .pre)
+
+mul-header : tie.Need-mul-header Inv-objects μ-objects
+mul-header c = search needs
+
+shared-slice-read-header : tie.Need-shared-slice-read-header Inv-objects μ-objects
+shared-slice-read-header c = search needs
+
+is-legal-requires : tie.Need-is-legal-requires Inv-objects μ-objects
+is-legal-requires c κs = search needs
+
+cast-n : tie.Need-cast-n Inv-objects μ-objects
+cast-n c = omega (arith, c .before .before .shared-slice-known3 .given (c .before .before .before .before .objects .p))
+
+sub-if3 : tie.Need-sub-if3 Inv-objects μ-objects
+sub-if3 c = search needs
+
+sub-if3-2 : tie.Need-sub-if3-2 Inv-objects μ-objects
+sub-if3-2 c = search needs
+
+add-next : tie.Need-add-next Inv-objects μ-objects
+add-next c = search needs
+
+add-next-2 : tie.Need-add-next-2 Inv-objects μ-objects
+add-next-2 c = search needs
+
+note-requires : tie.Need-note-requires Inv-objects μ-objects
+note-requires c κs = search needs
+
+objects-less : tie.Need-objects-less Inv-objects μ-objects
+objects-less c = search needs
+
+objects-again : tie.Need-objects-again Inv-objects μ-objects
+objects-again c = let legal = c .before .before .before .before .before in
+    surveyed-next (legal .before .before .before .before .objects .inv) _ _ _ _ (omega arith) refl
+    (sym (legal .before .is-legal .ensures) ∙ not-false (legal .before .is-legal .result) (legal .if2 .left)) (omega arith) (c .note .ensures)
+
+returns : tie.Need-returns Inv-objects μ-objects
+returns c = surveyed-end (c .before .objects .inv) (c .if1 .taken)
+
+returns-2 : tie.Need-returns-2 Inv-objects μ-objects
+returns-2 c = let s = c .before .before .before .before .objects .inv in
+    surveyed-stop s (omega arith)
+    (walking-illegal (s .walking) (omega arith) (sym (c .before .is-legal .ensures) ∙ not-true (c .before .is-legal .result) (c .if2 .taken)))
+
+returns-3 : tie.Need-returns-3 Inv-objects μ-objects
+returns-3 c = let s = c .before .before .before .before .before .objects .inv in
+    surveyed-stop s (omega arith) (walking-past (s .walking) (omega arith) (omega arith))
+
+pub walk-spec : {M : Type 1} → statement M
+walk-spec =
+    tie.close
+    (tie.spec
+    Inv-objects
+    μ-objects
+    objects-holds
+    mul-header
+    shared-slice-read-header
+    is-legal-requires
+    cast-n
+    sub-if3
+    sub-if3-2
+    add-next
+    add-next-2
+    note-requires
+    objects-less
+    objects-again
+    returns
+    returns-2
+    returns-3)

@@ -1,19 +1,19 @@
 -- What the phases of a collection leave, word by word, is what meaning's collection leaves. Assumes nothing.
-use mathlib.Core.Path.{_≡_, refl, sym, ap, ap₂, _∙_}
+use mathlib.Core.Path.{_≡_, refl, sym, ap, _∙_}
 use mathlib.Core.Bool.{Bool, true, false, _&&_, cond}
 use mathlib.Core.Logic.{⊎-elim}
-use mathlib.Core.List.{List, [], _∷_, _++_, map}
+use mathlib.Core.List.{List, [], _++_, map}
 use Prim.Native.Nat.{ℕ, _+_, _-_, _≤_, _<_}
 use native.Mathlib.Omega.{arith}
-use lib.ListN.{length, getD, take, drop, replicate, length-append, length-drop, length-replicate, getD-replicate, List·getD-append}
+use lib.ListN.{length, getD, drop, replicate, length-append, length-drop, length-replicate, getD-replicate, List·getD-append}
 use lib.Seq.{getD-append-add, getD-drop, getD-take, ext-getD}
 use Rattle.meaning.specs.Values.{isRef, placeOf, refTo}
 use Rattle.meaning.specs.Places.{placesFrom, below, marked}
-use Rattle.meaning.specs.Objects.{Object, encode, all, parse}
-use Rattle.meaning.specs.Slide.{newPlace, fixWord, slide, headerAt, liveAt, fieldAt}
+use Rattle.meaning.specs.Objects.{Object, encode}
+use Rattle.meaning.specs.Slide.{newPlace, fixWord, slide, liveAt, fieldAt}
 use Rattle.meaning.specs.Words.{live, field, fixed}
 use Rattle.meaning.specs.Blocks.{run, orderBreaks}
-use Rattle.meaning.proofs.Deciding.{le-or-lt, true-or-false}
+use Rattle.meaning.proofs.Deciding.{le-or-lt}
 use Rattle.meaning.proofs.Counting.{below-few}
 use Rattle.meaning.proofs.ByObjects.{fix-words-same}
 use Rattle.meaning.proofs.Bridge.{field-agree, live-below, new-below, header-low}

@@ -24,7 +24,7 @@ pub record TablesFit (live offsets : List ℕ) : Type 0 where
   pub few : length live ≤ tableEntries
 
 module _ (live offsets : List ℕ) where
-  fit-gives : TablesFit live offsets → (a : Answer Found) → ifTablesFit live offsets a ≡ a
+  pub fit-gives : TablesFit live offsets → (a : Answer Found) → ifTablesFit live offsets a ≡ a
   fit-gives f a = rw (eq-eqb (length live) (length offsets) (f .same), le-leb (length live) tableEntries (f .few))
 
   gives-fit : (a : Answer Found) (x : Found) → ifTablesFit live offsets a ≡ gives x → TablesFit live offsets × (a ≡ gives x)

@@ -26,9 +26,13 @@ module _ (m : ℕ → Bool) where
   first : (p : ℕ) (o : Object) (os : List Object) → length (placesFrom (markedHeader p (o ∷ os)) p (size o)) ≡ length (consIf (m p) o [])
   unfolding markedHeader
   first p o os =
-      rw (places-none (markedHeader p (o ∷ os)) (suc p) (length (payload o))
-      (λ k h. rw (suc-add, lt-ltb (suc (p + k)) (p + size o) (omega arith), ne-eqb p (suc (p + k)) (λ e. omega arith)) (and-false (m (suc (p + k))))),
-      lt-ltb p (p + size o) (omega arith), eq-eqb p p refl, and-true (m p))
+      rw (
+        places-none (markedHeader p (o ∷ os)) (suc p) (length (payload o))
+            (λ k h. rw (suc-add, lt-ltb (suc (p + k)) (p + size o) (omega arith), ne-eqb p (suc (p + k)) (λ e. omega arith)) (and-false (m (suc (p + k))))),
+        lt-ltb p (p + size o) (omega arith),
+        eq-eqb p p refl,
+        and-true (m p),
+      )
       (go (m p))
     where
       go : (b : Bool) → length (consIf b p []) ≡ length (consIf b o [])

@@ -1,10 +1,9 @@
 -- Lowest offending places, one check after the other, are the judgement of meaning. Assumes nothing.
-use mathlib.Core.Path.{_≡_, refl, sym, ap, ap₂, _∙_, subst}
+use mathlib.Core.Path.{_≡_, refl, ap, _∙_}
 use mathlib.Core.Bool.{Bool, true, false, not, _&&_}
 use mathlib.Core.Logic.{⊎-elim}
-use mathlib.Core.List.{List, [], _∷_, _++_, append-nil}
+use mathlib.Core.List.{List, [], _∷_, append-nil}
 use Prim.Native.Nat.{ℕ, _+_, _-_, _*_, _≤_, _<_}
-use native.Mathlib.Nat.{zero-add}
 use native.Mathlib.Omega.{arith}
 use lib.ListN.{length, getD}
 use Rattle.meaning.specs.Limits.{blockWords}
@@ -15,7 +14,7 @@ use Rattle.meaning.specs.Objects.{Object, all, parse}
 use Rattle.meaning.specs.Slide.{headerAt, fieldAt}
 use Rattle.meaning.specs.Collect.{dangling, strays, badRoots, badFields, judged}
 use Rattle.meaning.proofs.Deciding.{true-or-false}
-use Rattle.meaning.proofs.Counting.{places-split, places-none, places-same, Lowest, lowest-is}
+use Rattle.meaning.proofs.Counting.{places-split, places-none, places-same, lowest-is}
 use Rattle.meaning.proofs.Bridge.{field-low}
 
 -- a search says the lowest offending place, or the end

@@ -1,0 +1,2 @@
+-- Laws of what C is handed back.
+pub mod Saying

@@ -1,0 +1,17 @@
+-- What is said of an answer, is said of the answer that it is. Assumes nothing.
+use mathlib.Core.Path.{_≡_, refl}
+use mathlib.Core.List.{List}
+use Prim.Native.Nat.{ℕ}
+use lib.ListN.{set}
+use Rattle.meaning.specs.Answers.{Answer}
+use Rattle.tables.specs.Paper.{lookupAnswer}
+use Rattle.tables.specs.declared.Lookup.{Lookup}
+use Rattle.tables.specs.declared.Lookup.the-variants.{At}
+use Rattle.words.specs.declared.Place.{Place}
+use Rattle.hasurimba.specs.Out.{Says, foundWords}
+
+pub says-same : {A : Type 0} {values : A → List ℕ} {a b : Answer A} {out after : List ℕ} {r : ℕ} → Says values a out r after → a ≡ b → Says values b out r after
+says-same s e = rw (← e) s
+
+pub says-place : (out : List ℕ) (found : Lookup) (p : Place) (n : ℕ) → found ≡ At p → n ≡ p .0 → Says foundWords (lookupAnswer found) out 0 (set (set out 0 1) 1 n)
+says-place out found p n e q = rw (e, q) (record { number = refl; words = refl })

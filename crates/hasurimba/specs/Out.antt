@@ -1,0 +1,27 @@
+-- An answer as C gets it: a number, and values in the words that it lends.
+use Prim.Native.Nat.{ℕ, _+_, _*_}
+use mathlib.Core.Path.{_≡_}
+use mathlib.Core.List.{List, [], _∷_}
+use lib.Seq.{sets}
+use Rattle.meaning.specs.Answers.{Answer, gives, refused}
+use Rattle.meaning.specs.Lookups.{Found, at, none}
+
+-- 0 where accepted, else the refusal's number + 256 * the place reported
+abbrev pub code : {A : Type 0} → Answer A → ℕ
+code (gives a) = 0
+code (refused n p) = n + 256 * p
+
+-- the lent words with the values in front; as found on a refusal
+abbrev pub outOf : {A : Type 0} → (A → List ℕ) → List ℕ → Answer A → List ℕ
+outOf values out (gives a) = sets out 0 (values a)
+outOf values out (refused n p) = out
+
+-- 1 and the place, or 0 for dead or none
+abbrev pub foundWords : Found → List ℕ
+foundWords (at p) = 1 ∷ p ∷ []
+foundWords none = 0 ∷ []
+
+-- the number and the lent words afterwards say an answer
+pub record Says {A : Type 0} (values : A → List ℕ) (a : Answer A) (out : List ℕ) (r : ℕ) (after : List ℕ) : Type 0 where
+  pub number : r ≡ code a
+  pub words : after ≡ outOf values out a

@@ -2,5 +2,6 @@
 pub mod Words
 pub mod Ranges
 pub mod LowestBit
+pub mod BitLoop
 pub mod Halving
 pub mod NextSet

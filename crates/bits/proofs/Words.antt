@@ -1,19 +1,19 @@
 -- The bits of one word, over any width: read, counted, joined and shifted. Assumes nothing.
 use mathlib.Core.Path.{_≡_, refl, sym, ap, ap₂, _∙_}
 use mathlib.Core.Logic.{⊎-elim}
-use mathlib.Core.Bool.{Bool, true, false, _||_}
-use Prim.Native.Nat.{ℕ, zero, suc, _+_, _-_, _*_, _/_, _%_, _^_, _≤_, _<_, max}
+use mathlib.Core.Bool.{Bool, true, false, not, _&&_, _||_}
+use Prim.Native.Nat.{ℕ, zero, suc, _+_, _-_, _*_, _/_, _%_, _^_, _≤_, _<_, min, max}
 use native.Mathlib.Nat.{lt-of-lt-of-le, div-eq-of-lt, pow-suc}
 use native.Mathlib.Numerals.{one-add}
 use native.Mathlib.Omega.{arith}
 use lib.Arith.{digits-mod}
-use lib.Bits.{bitOr, or-step, or-shr, shifted-even, shifted-half}
+use lib.Bits.{bitAnd, bitOr, and-step, and-shr, or-step, or-shr, shifted-even, shifted-half}
 use lib.Count.{onesIn, ones}
 use lib.Dec.{eqb}
 use lib.Pow.{pow-pos, pow-mono, shr-shr, shl-shr}
 use borrow.Author.Tests.{eq-eqb}
 use Rattle.meaning.specs.Places.{below, bitOf, bitSet}
-use Rattle.meaning.proofs.Deciding.{le-or-lt, true-or-false, clash}
+use Rattle.meaning.proofs.Deciding.{le-or-lt, eq-or-ne, true-or-false, clash}
 use Rattle.meaning.proofs.Counting.{below-zero, below-next, below-stay, below-flat, below-shift}
 use Rattle.meaning.proofs.Bitmaps.{bit-low, bit-half, bit-one, bit-none}
 
@@ -79,6 +79,26 @@ bit-or a b i =
     go : (c : Bool) → bitSet a i ≡ c → eqb (max (bitOf a i) (bitOf b i)) 1 ≡ c || bitSet b i
     go true e = eq-eqb (max (bitOf a i) (bitOf b i)) 1 (omega (arith, bit-one a i e))
     go false e = ap (λ (x : ℕ). eqb x 1) (let z : max (bitOf a i) (bitOf b i) ≡ bitOf b i = omega (arith, bit-none a i e) in z)
+
+pub bit-and : (a b i : ℕ) → bitSet (bitAnd a b) i ≡ bitSet a i && bitSet b i
+bit-and a b i =
+    ap (λ (x : ℕ). eqb (x % 2) 1) (and-shr a b i ∙ and-step (a / 2 ^ i) (b / 2 ^ i))
+    ∙ ap (λ (x : ℕ). eqb x 1) (digits-mod (bitAnd (a / 2 ^ i / 2) (b / 2 ^ i / 2)) (let h : min (bitOf a i) (bitOf b i) < 2 = omega arith in h)) ∙ go (bitSet a i) refl
+  where
+    go : (c : Bool) → bitSet a i ≡ c → eqb (min (bitOf a i) (bitOf b i)) 1 ≡ c && bitSet b i
+    go true e = ap (λ (x : ℕ). eqb x 1) (let z : min (bitOf a i) (bitOf b i) ≡ bitOf b i = omega (arith, bit-one a i e) in z)
+    go false e = ap (λ (x : ℕ). eqb x 1) (let z : min (bitOf a i) (bitOf b i) ≡ 0 = omega (arith, bit-none a i e) in z)
+
+-- `!w` in k bits
+pub bit-not : (k w i : ℕ) → w < 2 ^ k → i < k → bitSet (2 ^ k - 1 - w) i ≡ not (bitSet w i)
+bit-not zero w i h l = absurd (omega arith)
+bit-not (suc k) w zero h l =
+    let e : (2 ^ suc k - 1 - w) % 2 ≡ 1 - w % 2 = omega (arith, pow-suc 2 k) in
+    bit-first (2 ^ suc k - 1 - w) (1 - w % 2) e
+    ∙ ⊎-elim (λ (o : w % 2 ≡ 1). rw o (ap not (sym (bit-first w 1 o)))) (λ ne. let z : w % 2 ≡ 0 = omega arith in rw z (ap not (sym (bit-first w 0 z)))) (eq-or-ne (w % 2) 1)
+bit-not (suc k) w (suc i) h l =
+    let e : (2 ^ suc k - 1 - w) / 2 ≡ 2 ^ k - 1 - w / 2 = omega (arith, pow-suc 2 k) in
+    bit-up (2 ^ suc k - 1 - w) i ∙ ap (λ (x : ℕ). bitSet x i) e ∙ bit-not k (w / 2) i (omega (arith, pow-suc 2 k)) (omega arith) ∙ ap not (sym (bit-up w i))
 
 pub shl-low : (w i j : ℕ) → j < i → bitSet (w * 2 ^ i) j ≡ false
 shl-low w zero j h = absurd (omega arith)

@@ -71,13 +71,13 @@ grown t on from to before after {p} {next} h l new old g q =
     (le-or-lt p q)
 
 -- the objects before p are sound, and noted
-pub record Surveyed (heap : List ℕ) (top : ℕ) (m : ℕ → Bool) (p : ℕ) (headers words fields : List ℕ) : Type 0 where
+pub record Passing (heap : List ℕ) (top : ℕ) (m : ℕ → Bool) (p : ℕ) (headers words fields : List ℕ) : Type 0 where
   pub walking : Walking heap top p
   pub noted : Noted heap m p headers words fields
 
-pub surveyed-start : {heap : List ℕ} {top : ℕ} {m : ℕ → Bool} {headers words fields : List ℕ} → Blank heap top headers words fields
-    → Surveyed heap top m 0 headers words fields
-surveyed-start {heap} {top} b =
+pub passing-start : {heap : List ℕ} {top : ℕ} {m : ℕ → Bool} {headers words fields : List ℕ} → Blank heap top headers words fields
+    → Passing heap top m 0 headers words fields
+passing-start {heap} {top} b =
     record {
       walking = walking-start heap top (b .room);
       noted = record { is-header = λ q. none q _ _ (b .no-header q); is-live = λ q. none q _ _ (b .no-word q); is-field = λ q. none q _ _ (b .no-field q) };
@@ -86,10 +86,10 @@ surveyed-start {heap} {top} b =
     none : (q : ℕ) (noted t : Bool) → noted ≡ false → noted ≡ ltb q 0 && t
     none q noted t e = rw (le-ltb q 0 (omega arith)) e
 
-module _ {heap : List ℕ} {top : ℕ} {m : ℕ → Bool} {p : ℕ} {headers words fields : List ℕ} (s : Surveyed heap top m p headers words fields) where
-  pub surveyed-next : (k : ℕ) (headers' words' fields' : List ℕ) → p < top → k ≡ getD heap p 0 / 4 → legalHeader (getD heap p 0) ≡ true → p + 1 + k ≤ top
-      → Notes p (p + 1 + k) (m p) (eqb (getD heap p 0 % 4) 0) headers words fields headers' words' fields' → Surveyed heap top m (p + 1 + k) headers' words' fields'
-  surveyed-next k headers' words' fields' here e legal fits n =
+module _ {heap : List ℕ} {top : ℕ} {m : ℕ → Bool} {p : ℕ} {headers words fields : List ℕ} (s : Passing heap top m p headers words fields) where
+  pub passing-next : (k : ℕ) (headers' words' fields' : List ℕ) → p < top → k ≡ getD heap p 0 / 4 → legalHeader (getD heap p 0) ≡ true → p + 1 + k ≤ top
+      → Notes p (p + 1 + k) (m p) (eqb (getD heap p 0 % 4) 0) headers words fields headers' words' fields' → Passing heap top m (p + 1 + k) headers' words' fields'
+  passing-next k headers' words' fields' here e legal fits n =
       let w = s .walking in
       record {
         walking = walking-next w here k e legal fits;
@@ -100,11 +100,11 @@ module _ {heap : List ℕ} {top : ℕ} {m : ℕ → Bool} {p : ℕ} {headers wor
         };
       }
 
-  pub surveyed-stop : p < top → parse heap top ≡ bad p → Walked heap top m headers words fields p
-  surveyed-stop here e = record { low = omega arith; stopped = λ l. e; through = λ z. absurd (omega arith) }
+  pub passing-stop : p < top → parse heap top ≡ bad p → Walked heap top m headers words fields p
+  passing-stop here e = record { low = omega arith; stopped = λ l. e; through = λ z. absurd (omega arith) }
 
-  pub surveyed-end : p ≡ top → Walked heap top m headers words fields p
-  surveyed-end e =
+  pub passing-end : p ≡ top → Walked heap top m headers words fields p
+  passing-end e =
       record {
         low = omega arith;
         stopped = λ l. absurd (omega arith);

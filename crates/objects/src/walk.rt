@@ -15,28 +15,27 @@ pub fn is_legal(header: u32) -> bool
     (header < 4 * (PAYLOAD_WORDS + 1)) & (header % 4 < 2)
 }
 
-// The object of places p .. next - 1 noted: its header and, where it is marked, its words and a record's payload.
+// The object of places p .. next - 1 noted: its header and, where it is kept, its words and a record's payload.
 fn note(
     p: usize,
     next: usize,
+    kept: bool,
     is_record: bool,
-    marks: &[u64],
     headers: &mut [u64; TABLE_ENTRIES],
     words: &mut [u64; TABLE_ENTRIES],
     fields: &mut [u64; TABLE_ENTRIES],
 )
     requires { ⌜ (p < next) × (next ≤ blockWords * tableEntries) ⌝ }
-    ensures { λ _. ⌜ Notes p next (marked (now (marks .entry)) p) is_record (now (headers .entry)) (now (words .entry)) (now (fields .entry))
+    ensures { λ _. ⌜ Notes p next kept is_record (now (headers .entry)) (now (words .entry)) (now (fields .entry))
         (now (headers .exit)) (now (words .exit)) (now (fields .exit)) ⌝ }
 {
     bits::set_part(headers, p, 1);
-    if !bits::test(marks, p) {
-        return;
-    }
-    let payload = p + 1;
-    bits::set_range(words, p, next);
-    if is_record {
-        bits::set_range(fields, payload, next);
+    if kept {
+        let payload = p + 1;
+        bits::set_range(words, p, next);
+        if is_record {
+            bits::set_range(fields, payload, next);
+        }
     }
 }
 
@@ -66,7 +65,9 @@ pub fn walk(
             break 'objects p;
         }
         let next = p + 1 + n;
-        note(p, next, header % 4 == 0, marks, headers, words, fields);
+        let kept = bits::test(marks, p);
+        let is_record = header % 4 == 0;
+        note(p, next, kept, is_record, headers, words, fields);
         p = next;
     };
     end

@@ -1,10 +1,11 @@
 -- Each function's promise settles its answer, and reading and making undo each other. Assumes nothing.
 use mathlib.Core.Path.{_≡_, refl, sym, ap, _∙_}
+use mathlib.Core.Bool.{Bool}
 use Prim.Native.Nat.{ℕ, _<_}
 use lib.IntN.{ℤ}
 use Rattle.meaning.specs.Answers.{Answer, gives, refused}
-use Rattle.meaning.specs.Values.{Value, int, nil, ref, nilWord, wordOf, make}
-use Rattle.meaning.proofs.ValueWords.{make-read, read-make}
+use Rattle.meaning.specs.Values.{Value, int, nil, ref, nilWord, placeOf, wordOf, make}
+use Rattle.meaning.proofs.ValueWords.{ref-value, value-ref, place-half, make-read, read-make}
 use Rattle.words.specs.Paper.{shownValue, madeWord}
 use Rattle.words.specs.declared.Word.{Word}
 use Rattle.words.specs.declared.Place.{Place}
@@ -17,6 +18,9 @@ use Rattle.words.proofs.Place.number.Reads as number
 use Rattle.words.proofs.Word.from_bits.Reads as from-bits
 use Rattle.words.proofs.Word.bits.Reads as bits
 use Rattle.words.proofs.Word.shown.Reads as shown
+use Rattle.words.proofs.Word.is_ref.Reads as is-ref
+use Rattle.words.proofs.Word.ref_bit.Reads as ref-bit
+use Rattle.words.proofs.Word.target.Reads as target
 use Rattle.words.proofs.Word.of_int.Reads as of-int
 use Rattle.words.proofs.Word.of_place.Reads as of-place
 
@@ -67,6 +71,15 @@ Bits w r = bits.Post tt (w, tt) r (w, tt)
 abbrev pub Shows : Word → Shown → Type 0
 Shows w r = shown.Post tt (w, tt) r (w, tt)
 
+abbrev pub IsRef : Word → Bool → Type 0
+IsRef w r = is-ref.Post tt (w, tt) r (w, tt)
+
+abbrev pub RefBit : Word → ℕ → Type 0
+RefBit w r = ref-bit.Post tt (w, tt) r (w, tt)
+
+abbrev pub Target : Word → Place → Type 0
+Target w r = target.Post tt (w, tt) r (w, tt)
+
 abbrev pub OfInt : ℤ → Made → Type 0
 OfInt v r = of-int.Post tt (v, tt) r (v, tt)
 
@@ -91,6 +104,15 @@ bits-settled w r s p q = p ∙ sym q
 
 pub shown-settled : Settles Shows
 shown-settled w r s p q = shown-value-one r s (p ∙ sym q)
+
+pub is-ref-settled : Settles IsRef
+is-ref-settled w r s p q = p ∙ sym q
+
+pub ref-bit-settled : Settles RefBit
+ref-bit-settled w r s p q = p ∙ sym q
+
+pub target-settled : Settles Target
+target-settled w r s p q = ap place (p ∙ sym q)
 
 pub of-int-settled : Settles OfInt
 of-int-settled v r s p q = made-word-one r s (p ∙ sym q)
@@ -125,3 +147,10 @@ shown-of-place w p m h s o = made-word-one m (Is w) (o ∙ shown-made w (Ref p) 
 pub shown-nil : (w : Word) → w .0 < 4294967296 → Shows w Nil → w .0 ≡ nilWord
 unfolding make wordOf
 shown-nil w h s = cc (shown-made w Nil h s)
+
+-- ## The target of a reference is the place that it shows
+pub target-shown : (w : Word) (p r : Place) → Shows w (Ref p) → Target w r → r ≡ p
+target-shown w p r s t =
+    let is = value-ref (w .0) (p .0) (sym s) in
+    let same : placeOf (w .0) ≡ p .0 = cc (ref-value (w .0) is) in
+    ap place (t ∙ sym (place-half (w .0) is) ∙ same)

@@ -1,5 +1,7 @@
 ghost use mathlib.Core.Path.{_≡_};
-ghost use Rattle.meaning.specs.Values.{int, ref, valueOf, make};
+ghost use mathlib.Core.Bool.{cond};
+ghost use Prim.Native.Nat.{_/_};
+ghost use Rattle.meaning.specs.Values.{int, ref, isRef, valueOf, make};
 ghost use Rattle.words.specs.Paper.{shownValue, madeWord};
 
 // A word of the heap or of the roots: a small integer, nil, or a reference.
@@ -76,6 +78,26 @@ impl Word {
             return Shown::Nil;
         }
         Shown::Ref(Place((w - 1) / 2))
+    }
+
+    pub fn is_ref(self) -> bool
+        ensures { λ r. ⌜ r ≡ isRef (self .0) ⌝ }
+    {
+        (self.0 % 2 == 1) & (self.0 != Word::NIL.0)
+    }
+
+    // 1 for a reference, else 0: without a branch, for loops over many words.
+    pub fn ref_bit(self) -> u64
+        ensures { λ r. ⌜ r ≡ cond (isRef (self .0)) 1 0 ⌝ }
+    {
+        ((self.0 % 2) as u64) & ((self.0 != Word::NIL.0) as u64)
+    }
+
+    // The place that a reference is to.
+    pub fn target(self) -> Place
+        ensures { λ r. ⌜ r .0 ≡ self .0 / 2 ⌝ }
+    {
+        Place(self.0 / 2)
     }
 
     // The word of an integer, refused outside LEAST to GREATEST.

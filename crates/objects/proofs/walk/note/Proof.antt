@@ -1,7 +1,6 @@
 -- `objects::walk::note` meets its contract. Assumes nothing.
 use borrow.Author.Needs.{needs}
-use borrow.Author.Tests.{not-true, not-false}
-use mathlib.Core.Path.{sym, ap, ap₂, _∙_}
+use mathlib.Core.Path.{ap, ap₂}
 use mathlib.Core.Bool.{Bool, _&&_}
 use native.Mathlib.Omega.{arith}
 use Rattle.objects.proofs.WalkLaws.{gains-off, gains-on}
@@ -10,18 +9,6 @@ use Rattle.objects.proofs.walk.note.Tie as tie
 
 set-part-requires : tie.Need-set-part-requires
 set-part-requires c κs = search needs
-
-test-requires : tie.Need-test-requires
-test-requires c κs = search needs
-
-returns : tie.Need-returns
-returns c =
-    let dead = sym (c .before .test .ensures) ∙ not-true (c .before .test .result) (c .if1 .taken) in
-    record {
-      header-gained = c .before .before .set-part .ensures;
-      words-gained = gains-off _ _ _ _ dead;
-      fields-gained = gains-off _ _ _ _ (ap (λ (b : Bool). b && c .before .before .before .before .before .args .is-record) dead);
-    }
 
 add-payload : tie.Need-add-payload
 add-payload c = search needs
@@ -32,24 +19,30 @@ set-range-requires c κs = search needs
 set-range-requires-2 : tie.Need-set-range-requires-2
 set-range-requires-2 c κs = search needs
 
+returns : tie.Need-returns
+returns c =
+    let kept = c .before .before .before .before .before in
+    record {
+      header-gained = kept .before .set-part .ensures;
+      words-gained = gains-on _ _ _ _ _ (kept .if1 .taken) (omega arith) (c .before .before .before .set-range .ensures);
+      fields-gained = gains-on _ _ _ _ _ (ap₂ _&&_ (kept .if1 .taken) (c .before .before .if2 .taken)) (omega arith) (c .set-range2 .ensures);
+    }
+
 returns-2 : tie.Need-returns-2
 returns-2 c =
-    let t = c .before .before .before .before .before in
-    let kept = sym (t .before .test .ensures) ∙ not-false (t .before .test .result) (t .if1 .left) in
+    let kept = c .before .before .before in
     record {
-      header-gained = t .before .before .set-part .ensures;
-      words-gained = gains-on _ _ _ _ _ kept (omega arith) (c .before .before .before .set-range .ensures);
-      fields-gained = gains-on _ _ _ _ _ (ap₂ _&&_ kept (c .before .before .if2 .taken)) (omega arith) (c .set-range2 .ensures);
+      header-gained = kept .before .set-part .ensures;
+      words-gained = gains-on _ _ _ _ _ (kept .if1 .taken) (omega arith) (c .before .set-range .ensures);
+      fields-gained = gains-off _ _ _ _ (ap₂ _&&_ (kept .if1 .taken) (c .if2 .left));
     }
 
 returns-3 : tie.Need-returns-3
 returns-3 c =
-    let t = c .before .before .before in
-    let kept = sym (t .before .test .ensures) ∙ not-false (t .before .test .result) (t .if1 .left) in
     record {
-      header-gained = t .before .before .set-part .ensures;
-      words-gained = gains-on _ _ _ _ _ kept (omega arith) (c .before .set-range .ensures);
-      fields-gained = gains-off _ _ _ _ (ap₂ _&&_ kept (c .if2 .left));
+      header-gained = c .before .set-part .ensures;
+      words-gained = gains-off _ _ _ _ (c .if1 .left);
+      fields-gained = gains-off _ _ _ _ (ap (λ (b : Bool). b && c .before .before .before .args .is-record) (c .if1 .left));
     }
 
 pub note-spec : {M : Type 1} → statement M
@@ -57,10 +50,9 @@ note-spec =
     tie.close
     (tie.spec
     set-part-requires
-    test-requires
-    returns
     add-payload
     set-range-requires
     set-range-requires-2
+    returns
     returns-2
     returns-3)

@@ -6,18 +6,18 @@ use Prim.Native.Nat.{_-_}
 use native.Mathlib.Omega.{arith}
 use Rattle.meaning.specs.Places.{marked}
 use Rattle.meaning.proofs.Walking.{walking-illegal, walking-past}
-use Rattle.objects.proofs.WalkLaws.{Surveyed, surveyed-start, surveyed-next, surveyed-stop, surveyed-end}
+use Rattle.objects.proofs.WalkLaws.{Passing, passing-start, passing-next, passing-stop, passing-end}
 use Rattle.objects.proofs.walk.walk.Statement.{statement}
 use Rattle.objects.proofs.walk.walk.Tie as tie
 
 abbrev Inv-objects : tie.InvT-objects
-Inv-objects heap top marks headers₀ words₀ fields₀ p₀ headers words fields p = Surveyed heap top (marked marks) p headers words fields
+Inv-objects heap top marks headers₀ words₀ fields₀ p₀ headers words fields p = Passing heap top (marked marks) p headers words fields
 
 abbrev μ-objects : tie.MeasureT-objects
 μ-objects heap top marks headers₀ words₀ fields₀ p₀ headers words fields p = top - p
 
 objects-holds : tie.Need-objects-holds Inv-objects μ-objects
-objects-holds c = surveyed-start (c .before .before .pre)
+objects-holds c = passing-start (c .before .before .pre)
 
 mul-header : tie.Need-mul-header Inv-objects μ-objects
 mul-header c = search needs
@@ -43,6 +43,9 @@ add-next c = search needs
 add-next-2 : tie.Need-add-next-2 Inv-objects μ-objects
 add-next-2 c = search needs
 
+test-requires : tie.Need-test-requires Inv-objects μ-objects
+test-requires c κs = search needs
+
 note-requires : tie.Need-note-requires Inv-objects μ-objects
 note-requires c κs = search needs
 
@@ -50,21 +53,24 @@ objects-less : tie.Need-objects-less Inv-objects μ-objects
 objects-less c = search needs
 
 objects-again : tie.Need-objects-again Inv-objects μ-objects
-objects-again c = let legal = c .before .before .before .before .before in
-    surveyed-next (legal .before .before .before .before .objects .inv) _ _ _ _ (omega arith) refl
-    (sym (legal .before .is-legal .ensures) ∙ not-false (legal .before .is-legal .result) (legal .if2 .left)) (omega arith) (c .note .ensures)
+objects-again c =
+    let tested = c .before .before .before .before in
+    let legal = tested .before .before in
+    passing-next (legal .before .before .before .before .objects .inv) _ _ _ _ (omega arith) refl
+    (sym (legal .before .is-legal .ensures) ∙ not-false (legal .before .is-legal .result) (legal .if2 .left)) (omega arith)
+    (rw (tested .test .ensures) at (c .note .ensures))
 
 returns : tie.Need-returns Inv-objects μ-objects
-returns c = surveyed-end (c .before .objects .inv) (c .if1 .taken)
+returns c = passing-end (c .before .objects .inv) (c .if1 .taken)
 
 returns-2 : tie.Need-returns-2 Inv-objects μ-objects
 returns-2 c = let s = c .before .before .before .before .objects .inv in
-    surveyed-stop s (omega arith)
+    passing-stop s (omega arith)
     (walking-illegal (s .walking) (omega arith) (sym (c .before .is-legal .ensures) ∙ not-true (c .before .is-legal .result) (c .if2 .taken)))
 
 returns-3 : tie.Need-returns-3 Inv-objects μ-objects
 returns-3 c = let s = c .before .before .before .before .before .objects .inv in
-    surveyed-stop s (omega arith) (walking-past (s .walking) (omega arith) (omega arith))
+    passing-stop s (omega arith) (walking-past (s .walking) (omega arith) (omega arith))
 
 pub walk-spec : {M : Type 1} → statement M
 walk-spec =
@@ -81,6 +87,7 @@ walk-spec =
     sub-if3-2
     add-next
     add-next-2
+    test-requires
     note-requires
     objects-less
     objects-again

@@ -66,8 +66,8 @@ module _ (k word : ℕ) where
       }
 
   -- where no bit is left, none is set from `at` on
-  pub left-end : (at : ℕ) → Left 0 at → (i : ℕ) → at ≤ i → bitSet word i ≡ false
-  left-end at l i h = clear-left 0 at i l h (bit-zero i)
+  pub left-end : (m at : ℕ) → m ≡ 0 → Left m at → (i : ℕ) → at ≤ i → bitSet word i ≡ false
+  left-end m at e l i h = clear-left m at i l h (ap (λ (w : ℕ). bitSet w i) e ∙ bit-zero i)
 
   -- what is shown of bit z, of those before `at` and of clear bits holds of each bit up to z
   pub up-to-next : (P : ℕ → Type 0) (at z m : ℕ) → Next at z m → ((i : ℕ) → i < at → P i) → ((i : ℕ) → at ≤ i → bitSet word i ≡ false → P i) → P z
@@ -78,5 +78,5 @@ module _ (k word : ℕ) where
       (le-or-lt at i)
 
   -- and where no bit is left, of every bit
-  pub up-to-end : (P : ℕ → Type 0) (at : ℕ) → Left 0 at → ((i : ℕ) → i < at → P i) → ((i : ℕ) → at ≤ i → bitSet word i ≡ false → P i) → (i : ℕ) → P i
-  up-to-end P at l old clear i = ⊎-elim (λ (g : at ≤ i). clear i g (left-end at l i g)) (λ (g : i < at). old i g) (le-or-lt at i)
+  pub up-to-end : (P : ℕ → Type 0) (m at : ℕ) → m ≡ 0 → Left m at → ((i : ℕ) → i < at → P i) → ((i : ℕ) → at ≤ i → bitSet word i ≡ false → P i) → (i : ℕ) → P i
+  up-to-end P m at e l old clear i = ⊎-elim (λ (g : at ≤ i). clear i g (left-end m at e l i g)) (λ (g : i < at). old i g) (le-or-lt at i)

@@ -1,7 +1,7 @@
 -- The bits of one word, over any width: read, counted, joined and shifted. Assumes nothing.
 use mathlib.Core.Path.{_≡_, refl, sym, ap, ap₂, _∙_}
-use mathlib.Core.Logic.{⊎-elim}
-use mathlib.Core.Bool.{Bool, true, false, not, _&&_, _||_}
+use mathlib.Core.Logic.{⊎-elim, _≢_}
+use mathlib.Core.Bool.{Bool, true, false, not, _&&_, _||_, cond}
 use Prim.Native.Nat.{ℕ, zero, suc, _+_, _-_, _*_, _/_, _%_, _^_, _≤_, _<_, min, max}
 use native.Mathlib.Nat.{lt-of-lt-of-le, div-eq-of-lt, pow-suc}
 use native.Mathlib.Numerals.{one-add}
@@ -10,8 +10,8 @@ use lib.Arith.{digits-mod}
 use lib.Bits.{bitAnd, bitOr, and-step, and-shr, or-step, or-shr, shifted-even, shifted-half}
 use lib.Count.{onesIn, ones}
 use lib.Dec.{eqb}
-use lib.Pow.{pow-pos, pow-mono, shr-shr, shl-shr}
-use borrow.Author.Tests.{eq-eqb}
+use lib.Pow.{pow-pos, pow-mono, shr-shr, shl-exact, shl-shr}
+use borrow.Author.Tests.{eq-eqb, ne-eqb}
 use Rattle.meaning.specs.Places.{below, bitOf, bitSet}
 use Rattle.meaning.proofs.Deciding.{le-or-lt, eq-or-ne, true-or-false, clash}
 use Rattle.meaning.proofs.Counting.{below-zero, below-next, below-stay, below-flat, below-shift}
@@ -107,6 +107,27 @@ shl-low w (suc i) (suc j) h = bit-up (w * 2 ^ suc i) j ∙ ap (λ (x : ℕ). bit
 
 pub shl-high : (w i j : ℕ) → bitSet (w * 2 ^ i) (i + j) ≡ bitSet w j
 shl-high w i j = sym (bit-shr (w * 2 ^ i) i j) ∙ ap (λ (x : ℕ). bitSet x j) (shl-shr w i)
+
+-- bit z alone, set where a test says so
+pub bit-alone : (k z i : ℕ) (t : Bool) → z < k → bitSet (cond t 1 0 * 2 ^ z % 2 ^ k) i ≡ eqb i z && t
+bit-alone k z i t h =
+    ap (λ (x : ℕ). bitSet x i) (shl-exact 1 z k (few t) (omega arith))
+    ∙ ⊎-elim
+    (λ (l : z ≤ i). ap (bitSet (cond t 1 0 * 2 ^ z)) (let e : i ≡ z + (i - z) = omega arith in e) ∙ shl-high (cond t 1 0) z (i - z)
+    ∙ ⊎-elim
+    (λ (e : i ≡ z). let d : i - z ≡ 0 = omega arith in rw (d, eq-eqb i z e) (low t))
+    (λ ne. rw (ne-eqb i z ne) (bit-past 1 (cond t 1 0) (i - z) (few t) (omega arith)))
+    (eq-or-ne i z))
+    (λ (l : i < z). let ne : i ≢ z = λ e. omega arith in rw (ne-eqb i z ne) (shl-low (cond t 1 0) z i l))
+    (le-or-lt z i)
+  where
+    few : (t : Bool) → cond t 1 0 < 2 ^ 1
+    few true = omega arith
+    few false = omega arith
+
+    low : (t : Bool) → bitSet (cond t 1 0) 0 ≡ t
+    low true = refl
+    low false = refl
 
 -- a word of n set bits
 pub bit-ones : (n j : ℕ) → j < n → bitSet (2 ^ n - 1) j ≡ true

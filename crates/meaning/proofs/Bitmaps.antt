@@ -9,7 +9,7 @@ use native.Mathlib.Numerals.{add-one, one-add}
 use native.Mathlib.Omega.{arith}
 use lib.Arith.{lt-one}
 use lib.Dec.{eqb}
-use lib.ListN.{length, getD, length-map, List·getD-eq-default}
+use lib.ListN.{length, getD, replicate, length-map, List·getD-eq-default}
 use lib.Pow.{shr-shr, shr-lt}
 use lib.Seq.{ext-getD}
 use borrow.Author.Tests.{eq-eqb, ne-eqb, eqb-true, eqb-false}
@@ -111,6 +111,16 @@ marked-out m p h =
 
 pub marked-in : (m : List ℕ) (p : ℕ) → marked m p ≡ true → p < blockWords * length m
 marked-in m p e = ⊎-elim (λ h. absurd (clash (marked m p) e (marked-out m p h))) (λ h. h) (le-or-lt (blockWords * length m) p)
+
+-- nor in a bitmap of zeros
+pub marked-zeros : (n p : ℕ) → marked (replicate n 0) p ≡ false
+unfolding marked
+marked-zeros n p = ap (λ (w : ℕ). bitSet w (p % blockWords)) (zeros n (p / blockWords)) ∙ bit-zero (p % blockWords)
+  where
+    zeros : (n b : ℕ) → getD (replicate {A = ℕ} n 0) b 0 ≡ 0
+    zeros zero b = refl
+    zeros (suc n) zero = refl
+    zeros (suc n) (suc b) = zeros n b
 
 -- the marks below place i of block b: those of the blocks before it, and those of its word
 pub below-block : (m : List ℕ) (b i : ℕ) → i ≤ blockWords → below (marked m) (blockWords * b + i) ≡ below (marked m) (blockWords * b) + below (bitSet (getD m b 0)) i

@@ -1,12 +1,13 @@
 -- What the checks 2 to 5 answer, and the bitmaps that they hand on.
-use Prim.Native.Nat.{ℕ}
+use Prim.Native.Nat.{ℕ, _*_}
 use mathlib.Core.Path.{_≡_}
 use mathlib.Core.Bool.{Bool, _&&_}
 use mathlib.Core.List.{List}
-use lib.ListN.{getD}
+use lib.ListN.{length, getD}
+use Rattle.meaning.specs.Limits.{blockWords, tableEntries}
 use Rattle.meaning.specs.Answers.{Answer, gives, refused}
 use Rattle.meaning.specs.Values.{isRef}
-use Rattle.meaning.specs.Places.{marked}
+use Rattle.meaning.specs.Places.{below, marked}
 use Rattle.meaning.specs.Objects.{Object, parse}
 use Rattle.meaning.specs.Slide.{headerAt, liveAt, fieldAt}
 use Rattle.meaning.specs.Collect.{Counts, judged}
@@ -31,3 +32,9 @@ Examined heap top roots marks headers words refs Sound =
 abbrev pub checkedCounts : Checked → Answer Counts
 checkedCounts (Passed live objects) = gives (record { live = live; objects = objects })
 checkedCounts (Refused n p) = refused n p
+
+-- the same from what the checks 2 to 5 said, all bits of the live words and of the marks being counted
+abbrev pub judgedCounts : List ℕ → List ℕ → Judged → Answer Counts
+judgedCounts words marks (Unsound n p) = refused n p
+judgedCounts words marks Sound =
+    gives (record { live = below (marked words) (blockWords * tableEntries); objects = below (marked marks) (blockWords * length marks) })

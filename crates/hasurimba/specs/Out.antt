@@ -4,6 +4,7 @@ use mathlib.Core.Path.{_≡_}
 use mathlib.Core.List.{List, [], _∷_}
 use lib.Seq.{sets}
 use Rattle.meaning.specs.Answers.{Answer, gives, refused}
+use Rattle.meaning.specs.Collect.{Counts}
 use Rattle.meaning.specs.Lookups.{Found, at, none}
 
 -- 0 where accepted, else the refusal's number + 256 * the place reported
@@ -15,6 +16,10 @@ code (refused n p) = n + 256 * p
 abbrev pub outOf : {A : Type 0} → (A → List ℕ) → List ℕ → Answer A → List ℕ
 outOf values out (gives a) = sets out 0 (values a)
 outOf values out (refused n p) = out
+
+-- L and the number of marked objects
+abbrev pub countWords : Counts → List ℕ
+countWords c = c .live ∷ c .objects ∷ []
 
 -- 1 and the place, or 0 for dead or none
 abbrev pub foundWords : Found → List ℕ

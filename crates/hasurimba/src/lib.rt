@@ -1,10 +1,40 @@
 // The C interface. Every function answers 0 where accepted, else the refusal's number + 256 * the place reported; values go
 // to the four words `out`, which stay as found on a refusal. None has a `requires`: C cannot be asked for one.
+ghost use Rattle.meaning.specs.Collect.{check};
 ghost use Rattle.meaning.specs.Lookups.{oldToNew, newToOld};
+ghost use Rattle.objects.specs.Examined.{checkedCounts};
 ghost use Rattle.tables.specs.Paper.{lookupAnswer};
-ghost use Rattle.hasurimba.specs.Out.{Says, foundWords};
+ghost use Rattle.hasurimba.specs.Out.{Says, countWords, foundWords};
+use objects::Checked;
 use tables::Lookup;
 use words::Place;
+
+// The check's answer as C gets it.
+fn say_checked(checked: Checked, out: &mut [u64; 4]) -> u64
+    ensures { λ r. ⌜ Says countWords (checkedCounts checked) (now (out .entry)) r (now (out .exit)) ⌝ }
+{
+    match checked {
+        Checked::Passed(live, objects) => {
+            out[0] = live as u64;
+            out[1] = objects as u64;
+            0
+        }
+        Checked::Refused(number, place) => number as u64 + 256 * (place as u64),
+    }
+}
+
+#[no_mangle]
+pub extern "C" fn hasurimba_check(
+    heap: &[u32],
+    top: u32,
+    roots: &[u32],
+    marks: &[u64],
+    out: &mut [u64; 4],
+) -> u64
+    ensures { λ r. ⌜ Says countWords (check (now (heap .entry)) top (now (roots .entry)) (now (marks .entry))) (now (out .entry)) r (now (out .exit)) ⌝ }
+{
+    say_checked(objects::check(heap, top, roots, marks), out)
+}
 
 // A lookup's answer as C gets it.
 fn say_lookup(found: Lookup, out: &mut [u64; 4]) -> u64

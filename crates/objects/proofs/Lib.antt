@@ -7,3 +7,4 @@ pub mod PassingBits
 pub mod Sizes
 pub mod Surveying
 pub mod Judging
+pub mod Settled

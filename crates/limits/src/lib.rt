@@ -6,6 +6,9 @@ pub const HEAP_WORDS: usize = 8192;
 // Root slots, at most.
 pub const ROOT_SLOTS: usize = 64;
 
+// Entries of a block order, at most.
+pub const ORDER_ENTRIES: usize = 128;
+
 // Payload words of an object, at most.
 pub const PAYLOAD_WORDS: u32 = 1023;
 

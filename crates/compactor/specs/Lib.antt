@@ -1,0 +1,2 @@
+-- What the contracts of `compactor` add to the notions of `meaning`.
+pub mod Fixable

@@ -1,0 +1,2 @@
+// The whole collection, and its phases after the check.
+pub mod fix;

@@ -1,5 +1,5 @@
 -- A pass that rewrites words where they stand, lowest place first: which are rewritten and which are as before. Assumes nothing.
-use mathlib.Core.Path.{_≡_, refl, sym, ap, _∙_}
+use mathlib.Core.Path.{_≡_, refl, sym, _∙_}
 use mathlib.Core.Logic.{⊎-elim}
 use mathlib.Core.List.{List, map}
 use Prim.Native.Nat.{ℕ, _+_, _≤_, _<_}
@@ -43,4 +43,4 @@ module _ (g : ℕ → ℕ) (before : List ℕ) where
 pub rewritten-map : (f : ℕ → ℕ) (before after : List ℕ) (p : ℕ) → length before ≤ p → RewrittenBelow (λ q. f (getD before q 0)) before p after → after ≡ map f before
 rewritten-map f before after p h w =
     ext-getD 0 after (map f before) (w .long ∙ sym (length-map before f))
-    (λ q l. w .done q (omega (arith, w .long)) ∙ sym (getD-map f before q (omega (arith, w .long))))
+    (λ q l. w .done q (omega arith) ∙ sym (getD-map f before q (omega arith)))

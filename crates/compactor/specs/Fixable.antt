@@ -14,14 +14,19 @@ use Rattle.meaning.proofs.LookupsInverse.{Exact}
 abbrev pub inBlock : ℕ → ℕ → ℕ → Bool
 inBlock b word q = eqb (q / blockWords) b && bitSet word (q % blockWords)
 
+-- each root that is a reference is to a place of the tables
 pub record RootsFixable (roots live offsets : List ℕ) : Type 0 where
   pub exact : Exact live offsets
-  pub within : (i : ℕ) → i < length roots → isRef (getD roots i 0) ≡ true → placeOf (getD roots i 0) / blockWords < length live
+  pub targets : (i : ℕ) → i < length roots → isRef (getD roots i 0) ≡ true → placeOf (getD roots i 0) / blockWords < length live
 
--- the places of refs hold references
+-- the word at place q is a reference to a place of the tables
+pub record RefersWithin (live heap : List ℕ) (q : ℕ) : Type 0 where
+  pub in-heap : q < length heap
+  pub is-ref : isRef (getD heap q 0) ≡ true
+  pub target : placeOf (getD heap q 0) / blockWords < length live
+
+-- so are the words at the places of refs, and the tables cover the heap
 pub record Fixable (refs : ℕ → Bool) (heap live offsets : List ℕ) : Type 0 where
   pub exact : Exact live offsets
   pub covered : length heap ≤ blockWords * length live
-  pub inside : (q : ℕ) → refs q ≡ true → q < length heap
-  pub is-ref : (q : ℕ) → refs q ≡ true → isRef (getD heap q 0) ≡ true
-  pub within : (q : ℕ) → refs q ≡ true → placeOf (getD heap q 0) / blockWords < length live
+  pub refers : (q : ℕ) → refs q ≡ true → RefersWithin live heap q

@@ -21,13 +21,8 @@ fn sent_on(word: u32, live: &[u64], offsets: &[u32]) -> u32
     requires { ⌜ Exact (now live) (now offsets) × (isRef word ≡ true) × (placeOf word / blockWords < length (now live)) ⌝ }
     ensures { λ r. ⌜ r ≡ refTo (below (marked (now (live .entry))) (placeOf word)) ⌝ }
 {
-    2
-        * new_place(
-            live,
-            offsets,
-            Word::from_bits(word).target().number() as usize,
-        )
-        + 1
+    let target = Word::from_bits(word).target().number() as usize;
+    2 * new_place(live, offsets, target) + 1
 }
 
 // A value word, sent on where it is a reference.

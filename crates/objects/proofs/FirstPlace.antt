@@ -19,6 +19,7 @@ use Rattle.bits.proofs.LowestBit.{lowest}
 use Rattle.objects.specs.Search.{firstOf}
 
 module _ (t : ℕ → Bool) where
+  -- no place below n passes
   abbrev pub NoneBelow : ℕ → Type 0
   NoneBelow n = (p : ℕ) → p < n → t p ≡ false
 
@@ -30,14 +31,14 @@ module _ (t : ℕ → Bool) where
   first-none n a = rw (places-none t 0 n (λ p h. rw zero-add (a p h)))
 
   -- ## What it says
-  found-first : (n : ℕ) → firstOf t n < n → Lowest t n (firstOf t n)
+  pub found-first : (n : ℕ) → firstOf t n < n → Lowest t n (firstOf t n)
   found-first n h = go (placesFrom t 0 n) refl
     where
       go : (ps : List ℕ) → placesFrom t 0 n ≡ ps → Lowest t n (firstOf t n)
       go [] e = absurd (omega (arith, ap (λ (l : List ℕ). getD l 0 n) e))
       go (i ∷ rest) e = rw e (lowest-is t n i rest e)
 
-  none-first : (n : ℕ) → n ≤ firstOf t n → NoneBelow n
+  pub none-first : (n : ℕ) → n ≤ firstOf t n → NoneBelow n
   none-first n h = go (placesFrom t 0 n) refl
     where
       go : (ps : List ℕ) → placesFrom t 0 n ≡ ps → NoneBelow n

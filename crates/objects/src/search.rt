@@ -37,7 +37,7 @@ pub fn first_stray(marks: &[u64], headers: &[u64; TABLE_ENTRIES]) -> usize
 }
 
 // Whether the place that a reference is to has a mark.
-fn has_target(marks: &[u64], reference: u32) -> bool
+fn target_marked(marks: &[u64], reference: u32) -> bool
     requires { ⌜ isRef reference ≡ true ⌝ }
     ensures { λ r. ⌜ r ≡ marked (now (marks .entry)) (placeOf reference) ⌝ }
 {
@@ -51,7 +51,7 @@ pub fn is_dangling(marks: &[u64], word: u32) -> bool
     if !Word::from_bits(word).is_ref() {
         return false;
     }
-    !has_target(marks, word)
+    !target_marked(marks, word)
 }
 
 // The lowest root slot that refers to a place without a mark, or the number of slots.
@@ -111,7 +111,7 @@ fn first_bad_in(heap: &[u32], b: usize, word: u64, marks: &[u64]) -> usize
     let mut left = word;
     while left != 0 {
         let z = u64::trailing_zeros(left) as usize;
-        if !has_target(marks, heap[BLOCK_WORDS * b + z]) {
+        if !target_marked(marks, heap[BLOCK_WORDS * b + z]) {
             return z;
         }
         left = left & (left - 1);

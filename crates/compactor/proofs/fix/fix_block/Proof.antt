@@ -1,9 +1,12 @@
 -- `fix::fix_block` meets its contract. Assumes nothing.
 use borrow.Author.Needs.{needs}
-use native.Mathlib.Omega.{arith}
+use Prim.Native.Nat.{_+_, _*_}
+use lib.Count.{trailingZeros}
+use Rattle.meaning.specs.Limits.{blockWords}
 use Rattle.meaning.specs.Places.{below, marked}
 use Rattle.bits.proofs.LowestBit.{lowest-less}
-use Rattle.compactor.proofs.RefsSentOn.{SendingBits, sending-start, Sendable, sending-at, sending-next, sending-end}
+use Rattle.compactor.specs.Fixable.{RefersWithin}
+use Rattle.compactor.proofs.RefsSentOn.{SendingBits, sending-start, sending-at, sending-next, sending-end}
 use Rattle.compactor.proofs.fix.fix_block.Statement.{statement}
 use Rattle.compactor.proofs.fix.fix_block.Tie as tie
 
@@ -16,9 +19,10 @@ abbrev μ-loop : tie.MeasureT-loop
 loop-holds : tie.Need-loop-holds Inv-loop μ-loop
 loop-holds c = sending-start _ _ _ _ (c .before .before .before .fits .word .fits)
 
--- the lowest bit left is at a place that can be sent on
-next : (c : tie.In-loop Inv-loop μ-loop) → Sendable _ _ _ _ _ _ (c .loop-test .taken) (c .before .loop .inv) (c .before .before .before .before .before .args .live .now)
-next c = sending-at _ _ _ _ _ _ _ _ _ _ (c .before .before .before .before .before .pre)
+-- the lowest bit left is at a reference that can be sent on
+next : (c : tie.In-loop Inv-loop μ-loop) → let s = c .before .before .before .before .before in
+    RefersWithin (s .args .live .now) (c .before .loop .heap) (blockWords * s .args .b + trailingZeros blockWords (c .before .loop .m))
+next c = sending-at _ _ _ _ _ _ (c .loop-test .taken) (c .before .loop .inv) _ _ (c .before .before .before .before .before .pre)
 
 mul-i : tie.Need-mul-i Inv-loop μ-loop
 mul-i c = let n = next c in search needs
@@ -33,16 +37,17 @@ mul-sent-on : tie.Need-mul-sent-on Inv-loop μ-loop
 mul-sent-on c = let n = next c in search needs
 
 slice-read-sent-on : tie.Need-slice-read-sent-on Inv-loop μ-loop
-slice-read-sent-on c = next (c .before) .in-heap
+slice-read-sent-on c = let n = next (c .before) in search needs
 
 sent-on-requires : tie.Need-sent-on-requires Inv-loop μ-loop
-sent-on-requires c κs = let n = next (c .before) in (c .before .before .before .before .before .before .pre .exact, n .is-ref, n .within)
+sent-on-requires c κs = let n = next (c .before) in
+    (c .before .before .before .before .before .before .pre .exact, n .is-ref, n .target)
 
 mul-heap : tie.Need-mul-heap Inv-loop μ-loop
 mul-heap c = let n = next (c .before .before) in search needs
 
 slice-write-heap : tie.Need-slice-write-heap Inv-loop μ-loop
-slice-write-heap c = next (c .before .before) .in-heap
+slice-write-heap c = let n = next (c .before .before) in search needs
 
 sub-m : tie.Need-sub-m Inv-loop μ-loop
 sub-m c = search needs
@@ -51,7 +56,8 @@ loop-less : tie.Need-loop-less Inv-loop μ-loop
 loop-less c = lowest-less _ (c .before .before .loop-test .taken)
 
 loop-again : tie.Need-loop-again Inv-loop μ-loop
-loop-again c = let t = c .before .before in sending-next _ _ _ _ _ _ (t .loop-test .taken) (t .before .loop .inv) _ (next t .in-heap) (c .sent-on .ensures)
+loop-again c = let t = c .before .before in
+    sending-next _ _ _ _ _ _ (t .loop-test .taken) (t .before .loop .inv) _ (next t .in-heap) (c .sent-on .ensures)
 
 same-length : tie.Need-same-length Inv-loop μ-loop
 same-length c = search needs

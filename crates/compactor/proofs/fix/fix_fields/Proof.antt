@@ -1,12 +1,10 @@
 -- `fix::fix_fields` meets its contract. Assumes nothing.
 use borrow.Author.Needs.{needs}
 use Prim.Native.Nat.{_-_, _*_}
-use native.Mathlib.Omega.{arith}
 use lib.ListN.{length}
 use Rattle.meaning.specs.Limits.{blockWords}
 use Rattle.meaning.specs.Places.{below, marked}
-use Rattle.compactor.proofs.RewrittenInPlace.{rewritten-start}
-use Rattle.compactor.proofs.RefsSentOn.{SentOnBelow, block-fixable, block-sent, blocks-sent}
+use Rattle.compactor.proofs.RefsSentOn.{SentOnBelow, block-fixable, block-sent, blocks-end}
 use Rattle.compactor.proofs.fix.fix_fields.Statement.{statement}
 use Rattle.compactor.proofs.fix.fix_fields.Tie as tie
 
@@ -36,13 +34,13 @@ loop-less : tie.Need-loop-less Inv-loop μ-loop
 loop-less c = search needs
 
 loop-again : tie.Need-loop-again Inv-loop μ-loop
-loop-again c = let l = c .before .before .before .before .before .before .loop in block-sent _ _ _ _ _ _ (l .inv) (c .before .before .fix-block .ensures)
+loop-again c = block-sent _ _ _ _ _ _ (c .before .before .before .before .before .before .loop .inv) (c .before .before .fix-block .ensures)
 
 same-length : tie.Need-same-length Inv-loop μ-loop
 same-length c = search needs
 
 returns : tie.Need-returns Inv-loop μ-loop
-returns c = blocks-sent _ _ _ _ _ _ _ (c .loop-test .left) (c .before .before .before .before .before .pre) (c .before .loop .inv)
+returns c = blocks-end _ _ _ _ _ _ _ (c .loop-test .left) (c .before .before .before .before .before .pre) (c .before .loop .inv)
 
 pub fix-fields-spec : {M : Type 1} → statement M
 fix-fields-spec =

@@ -1,9 +1,9 @@
 -- `fix::fix_root` meets its contract. Assumes nothing.
+use borrow.Author.Needs.{needs}
 use mathlib.Core.Path.{_≡_, sym, ap, _∙_}
 use Prim.Native.Nat.{ℕ}
 use borrow.Author.Tests.{not-true, not-false}
 use Rattle.meaning.specs.Values.{isRef}
-use borrow.Author.Needs.{needs}
 use Rattle.compactor.proofs.fix.fix_root.Statement.{statement}
 use Rattle.compactor.proofs.fix.fix_root.Tie as tie
 
@@ -20,7 +20,9 @@ returns : tie.Need-returns
 returns c = rw (sym (is-ref-of (c .before)) ∙ not-true _ (c .if1 .taken))
 
 sent-on-requires : tie.Need-sent-on-requires
-sent-on-requires c κs = let p = c .before .before .before .before .before .pre in let r = sym (is-ref-of (c .before)) ∙ not-false _ (c .if1 .left) in (p .0, r, p .1 r)
+sent-on-requires c κs = let p = c .before .before .before .before .before .pre in
+    let r = sym (is-ref-of (c .before)) ∙ not-false _ (c .if1 .left) in
+    (p .0, r, p .1 r)
 
 returns-2 : tie.Need-returns-2
 returns-2 c = rw (sym (is-ref-of (c .before .before)) ∙ not-false _ (c .before .if1 .left)) (c .sent-on .ensures)

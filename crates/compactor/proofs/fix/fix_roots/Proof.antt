@@ -1,12 +1,12 @@
 -- `fix::fix_roots` meets its contract. Assumes nothing.
-use mathlib.Core.Path.{_≡_, ap, _∙_}
 use borrow.Author.Needs.{needs}
-use Prim.Native.Nat.{ℕ, _-_}
+use mathlib.Core.Path.{ap, _∙_}
+use Prim.Native.Nat.{_-_}
 use native.Mathlib.Omega.{arith}
 use lib.ListN.{length, getD}
 use Rattle.meaning.specs.Places.{below, marked}
 use Rattle.meaning.specs.Slide.{fixWord}
-use Rattle.compactor.proofs.RewrittenInPlace.{RewrittenBelow, rewritten-start, rewritten-next, rewritten-map}
+use Rattle.compactor.proofs.RewrittenInPlace.{RewrittenBelow, rewritten-next, rewritten-map}
 use Rattle.compactor.proofs.fix.fix_roots.Statement.{statement}
 use Rattle.compactor.proofs.fix.fix_roots.Tie as tie
 
@@ -29,7 +29,7 @@ fix-root-requires : tie.Need-fix-root-requires Inv-loop μ-loop
 fix-root-requires c κs = let p = c .before .before .before .before .before .before .pre in
     let l = c .before .before .loop in
     let same = l .inv .rest (l .i) (omega arith) in
-    (p .exact, rw same (p .within (l .i) (omega arith)))
+    (p .exact, rw same (p .targets (l .i) (omega arith)))
 
 mul-roots : tie.Need-mul-roots Inv-loop μ-loop
 mul-roots c = search needs
@@ -45,7 +45,8 @@ loop-less c = search needs
 
 loop-again : tie.Need-loop-again Inv-loop μ-loop
 loop-again c = let l = c .before .before .before .loop in
-    rewritten-next _ _ _ _ _ (omega arith) (c .fix-root .ensures ∙ ap (fixWord (below (marked (c .before .before .before .before .before .before .before .args .live .now)))) (l .inv .rest (l .i) (omega arith))) (l .inv)
+    let live = c .before .before .before .before .before .before .before .args .live .now in
+    rewritten-next _ _ _ _ _ (omega arith) (c .fix-root .ensures ∙ ap (fixWord (below (marked live))) (l .inv .rest (l .i) (omega arith))) (l .inv)
 
 same-length : tie.Need-same-length Inv-loop μ-loop
 same-length c = search needs

@@ -1,6 +1,7 @@
 -- `fix::sent_on` meets its contract: half of a reference is the place that it is to, and the new place is no higher. Assumes nothing.
 use borrow.Author.Needs.{needs}
 use mathlib.Core.Path.{_≡_, ap, _∙_}
+use Prim.Native.Nat.{_≤_}
 use native.Mathlib.Omega.{arith}
 use Rattle.meaning.specs.Values.{placeOf}
 use Rattle.meaning.specs.Places.{below, marked}
@@ -18,8 +19,8 @@ target-requires c κs = search needs
 number-requires : tie.Need-number-requires
 number-requires c κs = search needs
 
-cast-new-place : tie.Need-cast-new-place
-cast-new-place c = search needs
+cast-target : tie.Need-cast-target
+cast-target c = search needs
 
 target-is : (c : tie.After-number) → c .number .result ≡ placeOf (c .before .before .before .before .before .args .word)
 target-is c = let s = c .before .before .before .before .before in omega (arith, place-half (s .args .word) (s .pre .1))
@@ -28,17 +29,19 @@ new-place-requires : tie.Need-new-place-requires
 new-place-requires c κs = let s = c .before .before .before .before .before in
     let e = target-is c in (s .pre .0, omega arith)
 
--- the new place of the target, which is no higher
-new-is : (c : tie.After-new-place) → c .new-place .result ≡ below (marked (c .before .before .before .before .before .before .args .live .now)) (placeOf (c .before .before .before .before .before .before .args .word))
+new-is : (c : tie.After-new-place) → let s = c .before .before .before .before .before .before in
+    c .new-place .result ≡ below (marked (s .args .live .now)) (placeOf (s .args .word))
 new-is c = c .new-place .ensures ∙ ap (below _) (target-is (c .before))
 
+new-low : (c : tie.After-new-place) → c .new-place .result ≤ placeOf (c .before .before .before .before .before .before .args .word)
+new-low c = let s = c .before .before .before .before .before .before in
+    omega (arith, new-is c, below-few (marked (s .args .live .now)) (placeOf (s .args .word)))
+
 mul-result : tie.Need-mul-result
-mul-result c = let s = c .before .before .before .before .before .before in
-    let e = new-is c in omega (arith, below-few (marked (s .args .live .now)) (placeOf (s .args .word)))
+mul-result c = let h = new-low c in omega arith
 
 add-result : tie.Need-add-result
-add-result c = let s = c .before .before .before .before .before .before in
-    let e = new-is c in omega (arith, below-few (marked (s .args .live .now)) (placeOf (s .args .word)))
+add-result c = let h = new-low c in omega arith
 
 returns : tie.Need-returns
 returns c = let e = new-is c in omega arith
@@ -50,7 +53,7 @@ sent-on-spec =
     from-bits-requires
     target-requires
     number-requires
-    cast-new-place
+    cast-target
     new-place-requires
     mul-result
     add-result

@@ -2,7 +2,7 @@
 use borrow.Author.Needs.{needs}
 use Prim.Native.Nat.{_-_}
 use native.Mathlib.Omega.{arith}
-use Rattle.compactor.proofs.TailZeroed.{Zeroing, zeroing-start, zeroing-next, zeroing-end}
+use Rattle.compactor.proofs.TailZeroed.{Zeroing, zeroing-next, zeroing-end}
 use Rattle.compactor.proofs.fix.zero_tail.Statement.{statement}
 use Rattle.compactor.proofs.fix.zero_tail.Tie as tie
 
@@ -28,13 +28,13 @@ loop-less : tie.Need-loop-less Inv-loop μ-loop
 loop-less c = search needs
 
 loop-again : tie.Need-loop-again Inv-loop μ-loop
-loop-again c = zeroing-next _ _ _ _ _ (c .loop-test .taken) (omega arith) (c .before .loop .inv)
+loop-again c = zeroing-next _ _ _ _ _ (omega arith) (omega arith) (c .before .loop .inv)
 
 same-length : tie.Need-same-length Inv-loop μ-loop
 same-length c = search needs
 
 returns : tie.Need-returns Inv-loop μ-loop
-returns c = zeroing-end _ _ _ _ _ (c .loop-test .left) (c .before .loop .inv)
+returns c = zeroing-end _ _ _ _ _ (omega arith) (c .before .loop .inv)
 
 pub zero-tail-spec : {M : Type 1} → statement M
 zero-tail-spec =

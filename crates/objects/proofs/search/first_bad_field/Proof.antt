@@ -40,7 +40,7 @@ add-result c = search needs
 returns : tie.Need-returns Inv-loop μ-loop
 returns c = let l = c .before .before .before .before .loop in
     let a = c .before .before .before .before .before .before .before .args in
-    block-found _ _ (l .block) _ (bad-block (a .heap .now) (a .marks .now) (a .refs .now) (l .block)) (c .before .first-bad-in .ensures) (l .inv .1) _ (c .before .before .before .loop-test .taken) (c .if1 .taken)
+    block-found _ _ (l .block) _ (bad-block (a .heap .now) (a .marks .now) (a .refs .now) (l .block)) (c .before .first-bad-in .ensures) (l .inv .1) (length (a .marks .now)) (omega arith) (c .if1 .taken)
 
 add-block : tie.Need-add-block Inv-loop μ-loop
 add-block c = search needs

@@ -29,23 +29,23 @@ loop-holds c = searching-start _ _ _ (c .before .before .fits .word .fits)
 cast-z : tie.Need-cast-z Inv-loop μ-loop
 cast-z c = let n = next c in search needs
 
-mul-has-target : tie.Need-mul-has-target Inv-loop μ-loop
-mul-has-target c = let n = next c in search needs
+mul-target-marked : tie.Need-mul-target-marked Inv-loop μ-loop
+mul-target-marked c = let n = next c in search needs
 
-add-has-target : tie.Need-add-has-target Inv-loop μ-loop
-add-has-target c = let n = next c in search needs
+add-target-marked : tie.Need-add-target-marked Inv-loop μ-loop
+add-target-marked c = let n = next c in search needs
 
-mul-has-target-2 : tie.Need-mul-has-target-2 Inv-loop μ-loop
-mul-has-target-2 c = let n = next c in search needs
+mul-target-marked-2 : tie.Need-mul-target-marked-2 Inv-loop μ-loop
+mul-target-marked-2 c = let n = next c in search needs
 
-shared-slice-read-has-target : tie.Need-shared-slice-read-has-target Inv-loop μ-loop
-shared-slice-read-has-target c = next (c .before) .1 .0
+shared-slice-read-target-marked : tie.Need-shared-slice-read-target-marked Inv-loop μ-loop
+shared-slice-read-target-marked c = next (c .before) .1 .0
 
-has-target-requires : tie.Need-has-target-requires Inv-loop μ-loop
-has-target-requires c κs = next (c .before) .1 .1
+target-marked-requires : tie.Need-target-marked-requires Inv-loop μ-loop
+target-marked-requires c κs = next (c .before) .1 .1
 
 returns : tie.Need-returns Inv-loop μ-loop
-returns c = searching-found _ _ _ _ (c .before .before .before .loop-test .taken) (rw (← c .before .has-target .ensures) (c .if1 .taken)) (c .before .before .before .before .loop .inv)
+returns c = searching-found _ _ _ _ (c .before .before .before .loop-test .taken) (rw (← c .before .target-marked .ensures) (c .if1 .taken)) (c .before .before .before .before .loop .inv)
 
 sub-left : tie.Need-sub-left Inv-loop μ-loop
 sub-left c = search needs
@@ -54,7 +54,7 @@ loop-less : tie.Need-loop-less Inv-loop μ-loop
 loop-less c = lowest-less _ (c .before .before .before .loop-test .taken)
 
 loop-again : tie.Need-loop-again Inv-loop μ-loop
-loop-again c = searching-next _ _ _ _ (c .before .before .before .loop-test .taken) (rw (← c .before .has-target .ensures) (c .if1 .left)) (c .before .before .before .before .loop .inv)
+loop-again c = searching-next _ _ _ _ (c .before .before .before .loop-test .taken) (rw (← c .before .target-marked .ensures) (c .if1 .left)) (c .before .before .before .before .loop .inv)
 
 returns-2 : tie.Need-returns-2 Inv-loop μ-loop
 returns-2 c = searching-end _ _ _ _ (c .loop-test .left) (c .before .loop .inv)
@@ -67,11 +67,11 @@ first-bad-in-spec =
     μ-loop
     loop-holds
     cast-z
-    mul-has-target
-    add-has-target
-    mul-has-target-2
-    shared-slice-read-has-target
-    has-target-requires
+    mul-target-marked
+    add-target-marked
+    mul-target-marked-2
+    shared-slice-read-target-marked
+    target-marked-requires
     returns
     sub-left
     loop-less

@@ -30,7 +30,8 @@ is-dangling-requires : tie.Need-is-dangling-requires Inv-loop μ-loop
 is-dangling-requires c κs = search needs
 
 returns : tie.Need-returns Inv-loop μ-loop
-returns c = first-found _ _ _ (c .before .before .before .loop-test .taken) (sym (c .before .is-dangling .ensures) ∙ c .if1 .taken) (c .before .before .before .before .loop .inv .1)
+returns c = let l = c .before .before .before .before .loop in
+    first-found _ (length (c .before .before .before .before .before .before .before .args .roots .now)) (l .i) (omega arith) (sym (c .before .is-dangling .ensures) ∙ c .if1 .taken) (l .inv .1)
 
 add-i : tie.Need-add-i Inv-loop μ-loop
 add-i c = search needs
@@ -42,8 +43,7 @@ loop-again : tie.Need-loop-again Inv-loop μ-loop
 loop-again c = (search needs, below-more _ _ (c .before .before .before .before .loop .inv .1) (sym (c .before .is-dangling .ensures) ∙ c .if1 .left))
 
 returns-2 : tie.Need-returns-2 Inv-loop μ-loop
-returns-2 c =
-    let e : c .before .loop .i ≡ length (c .before .before .before .before .args .roots .now) = omega arith in
+returns-2 c = let e : c .before .loop .i ≡ length (c .before .before .before .before .args .roots .now) = omega arith in
     rw (← e) (first-none _ _ (c .before .loop .inv .1))
 
 pub first-bad-root-spec : {M : Type 1} → statement M

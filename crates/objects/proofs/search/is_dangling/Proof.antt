@@ -23,12 +23,12 @@ is-ref-requires c κs = search needs
 returns : tie.Need-returns
 returns c = rw (told (c .before), not-true (c .before .is-ref .result) (c .if1 .taken))
 
-has-target-requires : tie.Need-has-target-requires
-has-target-requires c κs = is c
+target-marked-requires : tie.Need-target-marked-requires
+target-marked-requires c κs = is c
 
 returns-2 : tie.Need-returns-2
-returns-2 c = rw (is (c .before), c .has-target .ensures)
+returns-2 c = rw (is (c .before), c .target-marked .ensures)
 
 pub is-dangling-spec : {M : Type 1} → statement M
 is-dangling-spec =
-    tie.close (tie.spec from-bits-requires is-ref-requires returns has-target-requires returns-2)
+    tie.close (tie.spec from-bits-requires is-ref-requires returns target-marked-requires returns-2)

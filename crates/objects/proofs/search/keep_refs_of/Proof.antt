@@ -42,13 +42,14 @@ loop-less c = search needs
 
 loop-again : tie.Need-loop-again Inv-loop μ-loop
 loop-again c = let l = c .before .before .before .loop in
-    (keeping-next _ _ _ _ (l .inv .0) _ (c .before .before .loop-test .taken) (c .refs-in .ensures), simp length-set (omega arith))
+    (keeping-next _ _ (l .fields) (l .b) (l .inv .0) _ (omega arith) (c .refs-in .ensures), simp length-set (omega arith))
 
 same-length : tie.Need-same-length Inv-loop μ-loop
 same-length c = c .before .loop .inv .0 .same-length
 
 returns : tie.Need-returns Inv-loop μ-loop
-returns c = keeping-end _ _ _ _ (c .before .loop .inv .0) (c .loop-test .left)
+returns c = let l = c .before .loop in
+    keeping-end _ _ (l .fields) (l .b) (l .inv .0) (omega arith)
 
 pub keep-refs-of-spec : {M : Type 1} → statement M
 keep-refs-of-spec =

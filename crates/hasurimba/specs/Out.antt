@@ -4,7 +4,7 @@ use mathlib.Core.Path.{_≡_}
 use mathlib.Core.List.{List, [], _∷_}
 use lib.Seq.{sets}
 use Rattle.meaning.specs.Answers.{Answer, gives, refused}
-use Rattle.meaning.specs.Collect.{Counts}
+use Rattle.meaning.specs.Collect.{Counts, Totals, After}
 use Rattle.meaning.specs.Lookups.{Found, at, none}
 
 -- 0 where accepted, else the refusal's number + 256 * the place reported
@@ -21,6 +21,10 @@ outOf values out (refused n p) = out
 abbrev pub countWords : Counts → List ℕ
 countWords c = c .live ∷ c .objects ∷ []
 
+-- the new top L, the number of marked objects and the target blocks T
+abbrev pub totalWords : Totals → List ℕ
+totalWords t = t .top ∷ t .objects ∷ t .blocks ∷ []
+
 -- 1 and the place, or 0 for dead or none
 abbrev pub foundWords : Found → List ℕ
 foundWords (at p) = 1 ∷ p ∷ []
@@ -30,3 +34,12 @@ foundWords none = 0 ∷ []
 pub record Says {A : Type 0} (values : A → List ℕ) (a : Answer A) (out : List ℕ) (r : ℕ) (after : List ℕ) : Type 0 where
   pub number : r ≡ code a
   pub words : after ≡ outOf values out a
+
+-- the same of a collection, with every lent buffer
+pub record SaysCollected (c : After) (out : List ℕ) (r : ℕ) (heap roots marks live offsets after : List ℕ) : Type 0 where
+  pub says : Says totalWords (c .answer) out r after
+  pub heap-is : heap ≡ c .heap
+  pub roots-are : roots ≡ c .roots
+  pub marks-are : marks ≡ c .marks
+  pub live-is : live ≡ c .live
+  pub offsets-are : offsets ≡ c .offsets

@@ -1,10 +1,12 @@
 // The C interface. Every function answers 0 where accepted, else the refusal's number + 256 * the place reported; values go
 // to the four words `out`, which stay as found on a refusal. None has a `requires`: C cannot be asked for one.
-ghost use Rattle.meaning.specs.Collect.{check};
+ghost use Rattle.meaning.specs.Collect.{check, collect};
 ghost use Rattle.meaning.specs.Lookups.{oldToNew, newToOld};
+ghost use Rattle.compactor.specs.Collects.{collectedTotals};
 ghost use Rattle.objects.specs.Examined.{checkedCounts};
 ghost use Rattle.tables.specs.Paper.{lookupAnswer};
-ghost use Rattle.hasurimba.specs.Out.{Says, countWords, foundWords};
+ghost use Rattle.hasurimba.specs.Out.{Says, SaysCollected, countWords, foundWords, totalWords};
+use compactor::Collected;
 use objects::Checked;
 use tables::Lookup;
 use words::Place;
@@ -34,6 +36,41 @@ pub extern "C" fn hasurimba_check(
     ensures { λ r. ⌜ Says countWords (check (now (heap .entry)) top (now (roots .entry)) (now (marks .entry))) (now (out .entry)) r (now (out .exit)) ⌝ }
 {
     say_checked(objects::check(heap, top, roots, marks), out)
+}
+
+// The collection's answer as C gets it.
+fn say_collected(collected: Collected, out: &mut [u64; 4]) -> u64
+    ensures { λ r. ⌜ Says totalWords (collectedTotals collected) (now (out .entry)) r (now (out .exit)) ⌝ }
+{
+    match collected {
+        Collected::Done(top, objects, blocks) => {
+            out[0] = top as u64;
+            out[1] = objects as u64;
+            out[2] = blocks as u64;
+            0
+        }
+        Collected::Refused(number, place) => number as u64 + 256 * (place as u64),
+    }
+}
+
+#[no_mangle]
+pub extern "C" fn hasurimba_collect(
+    heap: &mut [u32],
+    top: u32,
+    roots: &mut [u32],
+    marks: &mut [u64],
+    order: &[u32],
+    live: &mut [u64],
+    offsets: &mut [u32],
+    out: &mut [u64; 4],
+) -> u64
+    ensures { λ r. ⌜ SaysCollected (collect (now (heap .entry)) top (now (roots .entry)) (now (marks .entry)) (now (order .entry)) (now (live .entry)) (now (offsets .entry)))
+        (now (out .entry)) r (now (heap .exit)) (now (roots .exit)) (now (marks .exit)) (now (live .exit)) (now (offsets .exit)) (now (out .exit)) ⌝ }
+{
+    say_collected(
+        compactor::collect(heap, top, roots, marks, order, live, offsets),
+        out,
+    )
 }
 
 // A lookup's answer as C gets it.

@@ -1,0 +1,46 @@
+-- `hasurimba_collect` meets its contract: the collection's answer, said. Assumes nothing.
+use borrow.Author.Needs.{needs}
+use Rattle.hasurimba.proofs.Saying.{says-collected}
+use Rattle.hasurimba.proofs.hasurimba_collect.Statement.{statement}
+use Rattle.hasurimba.proofs.hasurimba_collect.Tie as tie
+
+collect-requires : tie.Need-collect-requires
+collect-requires c κs = search needs
+
+say-collected-requires : tie.Need-say-collected-requires
+say-collected-requires c κs = search needs
+
+same-length : tie.Need-same-length
+same-length c = search needs
+
+same-length-2 : tie.Need-same-length-2
+same-length-2 c = search needs
+
+same-length-3 : tie.Need-same-length-3
+same-length-3 c = search needs
+
+same-length-4 : tie.Need-same-length-4
+same-length-4 c = search needs
+
+same-length-5 : tie.Need-same-length-5
+same-length-5 c = search needs
+
+returns : tie.Need-returns
+returns c =
+    let s = c .before .before .before .before .before .before .before .before .before .before .before .before .before .before .before .before .before .before .before .before .before .before .before .before in
+    let k = c .before .before .before .before .before .before .before .before .before .before .before .before .collect in
+    says-collected _ (k .result) (s .args .out .now) (c .say-collected .result) (k .last .0) (k .last .1 .1 .0) (k .last .1 .1 .1 .0) (k .last .1 .1 .1 .1 .1 .0) (k .last .1 .1 .1 .1 .1 .1 .0)
+    (c .say-collected .last .1 .0) (k .ensures) (c .say-collected .ensures)
+
+pub hasurimba-collect-spec : {M : Type 1} → statement M
+hasurimba-collect-spec =
+    tie.close
+    (tie.spec
+    collect-requires
+    say-collected-requires
+    same-length
+    same-length-2
+    same-length-3
+    same-length-4
+    same-length-5
+    returns)

@@ -1,6 +1,5 @@
-//! Programs around the static library `hasurimba`: an independent reading of what it promises,
-//! a safe way to call it, and makers of inputs to compare the two on.
+//! An independent reading of what the library promises, makers of inputs, and cases written from both.
 
-pub mod library;
+pub mod cases;
 pub mod plain;
 pub mod random;

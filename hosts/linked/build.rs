@@ -5,7 +5,7 @@ use std::path::PathBuf;
 
 fn main() {
     let manifest = PathBuf::from(env::var("CARGO_MANIFEST_DIR").expect("cargo sets the manifest folder"));
-    let folder = manifest.join("..").join("target").join("staticlib");
+    let folder = manifest.join("../../target/staticlib");
     let archive = folder.join("libhasurimba.a");
     println!("cargo::rerun-if-changed={}", archive.display());
     println!("cargo::rerun-if-changed=build.rs");

@@ -1,9 +1,9 @@
 //! Times the library's check on full heaps, beside a walk that judges nothing. Not a test.
 
-use hosts::library;
 use hosts::plain::{self, Counts};
 use hosts::random::heaps::{good, Input, Mix};
 use hosts::random::Random;
+use linked::library;
 use std::hint::black_box;
 use std::time::Instant;
 

@@ -1,11 +1,11 @@
 //! Compares the static library with the plain reading on random inputs, answer by answer.
 
-use hosts::library::{self, Answer};
 use hosts::plain::{self, Refusal};
 use hosts::random::damage::any_input;
 use hosts::random::heaps::Input;
 use hosts::random::tables::{any_question, Question};
 use hosts::random::Random;
+use linked::library::{self, Answer};
 use std::fmt::Debug;
 use std::hint::black_box;
 use std::process::exit;

@@ -1,6 +1,6 @@
 //! The static library's functions as `include/hasurimba.h` declares them, behind safe wrappers.
 
-use crate::plain::{Counts, Refusal};
+use hosts::plain::{Counts, Refusal};
 
 extern "C" {
     fn hasurimba_check(

@@ -1,0 +1,91 @@
+// One case of each kind. The buffers are larger than the library's limits, so that it is seen to refuse what is too long.
+use crate::case;
+use crate::digest;
+use crate::say;
+use words::Place;
+
+const HEAP_ROOM: usize = 8256;
+
+const ROOT_ROOM: usize = 72;
+
+const TABLE_ROOM: usize = 144;
+
+// The answer to one case, as a line.
+pub fn run(case: &[u8]) {
+    match case::word(case, 0) {
+        0 => read(case),
+        1 => check(case),
+        2 => lookups(case),
+        _ => say::skipped(),
+    }
+}
+
+// Kind 0: only reads, so that a fault in reading shows by itself.
+fn read(case: &[u8]) {
+    let heap_words = case::word(case, 1) as usize;
+    let blocks = case::word(case, 2) as usize;
+    let at_marks = 3 + heap_words;
+    let fits = (heap_words <= HEAP_ROOM)
+        & (blocks <= TABLE_ROOM)
+        & (case.len() == 4 * (at_marks + 2 * blocks));
+    if !fits {
+        say::skipped();
+        return;
+    }
+    let mut heap = [0u32; HEAP_ROOM];
+    let mut marks = [0u64; TABLE_ROOM];
+    let heap_words = case::words(case, 3, heap_words, &mut heap);
+    let blocks = case::pairs(case, at_marks, blocks, &mut marks);
+    say::digest(digest::pairs(
+        digest::words(digest::START, &heap[..heap_words]),
+        &marks[..blocks],
+    ));
+}
+
+// Kind 1: the check. Top, the lengths of heap, roots and marks; then these.
+fn check(case: &[u8]) {
+    let top = case::word(case, 1);
+    let heap_words = case::word(case, 2) as usize;
+    let slots = case::word(case, 3) as usize;
+    let blocks = case::word(case, 4) as usize;
+    let at_roots = 5 + heap_words;
+    let at_marks = at_roots + slots;
+    let fits = (heap_words <= HEAP_ROOM)
+        & (slots <= ROOT_ROOM)
+        & (blocks <= TABLE_ROOM)
+        & (case.len() == 4 * (at_marks + 2 * blocks));
+    if !fits {
+        say::skipped();
+        return;
+    }
+    let mut heap = [0u32; HEAP_ROOM];
+    let mut roots = [0u32; ROOT_ROOM];
+    let mut marks = [0u64; TABLE_ROOM];
+    let heap_words = case::words(case, 5, heap_words, &mut heap);
+    let slots = case::words(case, at_roots, slots, &mut roots);
+    let blocks = case::pairs(case, at_marks, blocks, &mut marks);
+    say::checked(objects::check(&heap[..heap_words], top, &roots[..slots], &marks[..blocks]));
+}
+
+// Kind 2: both lookups. The lengths of the live and offset tables, a place; then the tables.
+fn lookups(case: &[u8]) {
+    let blocks = case::word(case, 1) as usize;
+    let entries = case::word(case, 2) as usize;
+    let place = Place::at(case::word(case, 3));
+    let at_offsets = 4 + 2 * blocks;
+    let fits = (blocks <= TABLE_ROOM)
+        & (entries <= TABLE_ROOM)
+        & (case.len() == 4 * (at_offsets + entries));
+    if !fits {
+        say::skipped();
+        return;
+    }
+    let mut live = [0u64; TABLE_ROOM];
+    let mut offsets = [0u32; TABLE_ROOM];
+    let blocks = case::pairs(case, 4, blocks, &mut live);
+    let entries = case::words(case, at_offsets, entries, &mut offsets);
+    say::lookups(
+        tables::old_to_new(&live[..blocks], &offsets[..entries], place),
+        tables::new_to_old(&live[..blocks], &offsets[..entries], place),
+    );
+}

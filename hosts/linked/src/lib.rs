@@ -1,0 +1,3 @@
+//! The static library `hasurimba`, linked and behind safe wrappers.
+
+pub mod library;

@@ -20,4 +20,6 @@ pub mod OrderJudged
 pub mod TwoTargets
 pub mod BlocksSlide
 pub mod CollectedHeap
+pub mod CollectionSays
+pub mod CollectionLeaves
 pub mod CasesHold

@@ -108,7 +108,7 @@ module _ (live offsets : List ℕ) (x : Exact live offsets) where
 
 -- ## The tables of a collection are exact
 module _ (t : ℕ → Bool) (n : ℕ) (few : n ≤ tableEntries) where
-  below-marked : (q : ℕ) → q ≤ blockWords * n → below (marked (bitmap t n)) q ≡ below t q
+  pub below-marked : (q : ℕ) → q ≤ blockWords * n → below (marked (bitmap t n)) q ≡ below t q
   below-marked q h = below-same (marked (bitmap t n)) t q (λ p l. marked-bitmap t n p (omega arith))
 
   pub tables-exact : Exact (bitmap t n) (offsetTable t n)

@@ -1,20 +1,15 @@
 -- The lowest set bit of a word, and the word without it: what a loop over the set bits takes and keeps. Assumes nothing.
-use mathlib.Core.Path.{_≡_, refl, sym, ap, ap₂, _∙_}
+use mathlib.Core.Path.{_≡_, sym, ap, ap₂, _∙_}
 use mathlib.Core.Logic.{⊎-elim, _≢_}
 use mathlib.Core.Bool.{Bool, true, false, not, _&&_, and-true}
-use mathlib.Core.List.{List, [], _∷_}
-use Prim.Native.Nat.{ℕ, zero, suc, _+_, _-_, _*_, _/_, _%_, _^_, _≤_, _<_, min}
+use Prim.Native.Nat.{ℕ, zero, suc, _+_, _-_, _*_, _/_, _%_, _^_, _<_, min}
 use native.Mathlib.Nat.{pow-suc}
 use native.Mathlib.Omega.{arith}
 use lib.Bits.{bitAnd, and-step, and-self, and-le-r}
 use lib.Count.{trailingZeros, under}
 use lib.Dec.{eqb, eqb·suc-suc, eqb·suc-zero}
-use lib.ListN.{length}
-use borrow.Author.Tests.{eq-eqb, ne-eqb}
-use Rattle.meaning.specs.Places.{placesFrom, below, bitSet}
+use Rattle.meaning.specs.Places.{bitSet}
 use Rattle.meaning.proofs.Deciding.{eq-or-ne}
-use Rattle.meaning.proofs.Counting.{places-none, places-same}
-use Rattle.meaning.proofs.Bitmaps.{bit-zero}
 use Rattle.bits.proofs.Words.{bit-first, bit-up}
 
 -- z is the lowest set bit of m, and rest is m without it
@@ -70,29 +65,5 @@ lowest (suc k) m ne h = ⊎-elim
     rw (trailing-step k m 1 e, and-half m, half, and-self) (lowest-odd k m e))
     (eq-or-ne (m % 2) 0)
 
--- places without the lowest
-places-less : (t u : ℕ → Bool) (z p n : ℕ) → p ≤ z → z < p + n → t z ≡ true → ((i : ℕ) → i < z → t i ≡ false) → ((i : ℕ) → u i ≡ t i && not (eqb i z))
-    → placesFrom t p n ≡ z ∷ placesFrom u p n
-places-less t u z p zero h l e a o = absurd (omega arith)
-places-less t u z p (suc n) h l e a o = ⊎-elim
-    (λ (q : p ≡ z). rw (q, o z, e, eq-eqb z z refl)
-    (ap (λ (ps : List ℕ). z ∷ ps) (places-same t u (suc z) n (λ i g. rw (o (suc z + i), ne-eqb (suc z + i) z (λ c. omega arith)) (sym (and-true (t (suc z + i))))))))
-    (λ ne. rw (o p, a p (omega arith)) (places-less t u z (suc p) n (omega arith) (omega arith) e a o))
-    (eq-or-ne p z)
-
 pub lowest-less : (m : ℕ) → m ≢ 0 → bitAnd m (m - 1) < m
 lowest-less m ne = omega (arith, and-le-r m (m - 1))
-
-module _ (k m : ℕ) (ne : m ≢ 0) (h : m < 2 ^ k) where
-  pub places-lowest : placesFrom (bitSet m) 0 k ≡ trailingZeros k m ∷ placesFrom (bitSet (bitAnd m (m - 1))) 0 k
-  places-lowest =
-      let l = lowest k m ne h in
-      places-less (bitSet m) (bitSet (bitAnd m (m - 1))) (trailingZeros k m) 0 k (omega arith) (omega (arith, l .within)) (l .is-set) (l .none-before) (l .others)
-
-  pub below-lowest : below (bitSet m) k ≡ suc (below (bitSet (bitAnd m (m - 1))) k)
-  unfolding below
-  below-lowest = ap length places-lowest
-
--- where no bit is left the loop ends
-pub places-zero : (k : ℕ) → placesFrom (bitSet 0) 0 k ≡ []
-places-zero k = places-none (bitSet 0) 0 k (λ i h. bit-zero (0 + i))

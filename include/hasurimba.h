@@ -52,6 +52,40 @@ uint64_t hasurimba_check(
     uint64_t out[4]);
 
 /*
+ * Slides the marked objects together: the new place of a live word is the number of live words below it.
+ * With L live words the move goes by T = ceil(L / 64) target blocks. Step t writes the live words number 64t to
+ * 64t + 63 into block t, and order says in which order the steps are taken: it lists each of 0 to T - 1 once,
+ * and step t comes after every other step that some live word standing in block t goes to. Ascending order
+ * is always accepted.
+ *
+ * Nothing that is handed in may overlap. order is only read; live and offsets may hold anything before the
+ * call. The refusals, tried in this order:
+ *
+ *   1  heap over 8192 words, top above heap length, over 64 roots, marks, live or offsets of wrong length, or
+ *      order over 128 entries; at 0
+ *   2, 3, 4, 5  as for hasurimba_check
+ *   6  order breaks; at the first position whose entry is T or more, a repeat, or too early; if there is none
+ *      and the length is not T, at the smaller of length and T
+ *
+ * Refusals 1 to 5 leave everything as found. Refusal 6 leaves heap, roots and marks as found, with live and
+ * offsets filled in.
+ *
+ * Accepted: out[0] is L, which is the new top, out[1] the number of marked objects, out[2] is T. Words 0 to
+ * L - 1 of the heap are the slid objects, L to the old top - 1 are zero, and words from the old top on are as
+ * found. References in marked records and in roots are to the new places. marks are all zero, and live and
+ * offsets describe the old heap.
+ */
+uint64_t hasurimba_collect(
+    uint32_t *heap, size_t heap_len,
+    uint32_t top,
+    uint32_t *roots, size_t roots_len,
+    uint64_t *marks, size_t marks_len,
+    const uint32_t *order, size_t order_len,
+    uint64_t *live, size_t live_len,
+    uint32_t *offsets, size_t offsets_len,
+    uint64_t out[4]);
+
+/*
  * The new place of a live place: the offset entry of its block plus the live bits of that block below it.
  * The tables may hold anything. In this order:
  *

@@ -1,15 +1,18 @@
 //! Cases for the program `vectors`: the bytes that it reads, and the line that it has to write for them.
 
+mod collections;
 mod digest;
 pub mod edges;
 #[cfg(test)]
 mod tests;
 
 use crate::plain::{self, Refusal};
+use crate::random::collections::any_collection;
 use crate::random::damage::any_input;
 use crate::random::heaps::Input;
 use crate::random::tables::{any_question, Question};
 use crate::random::Random;
+pub use collections::collection;
 use digest::Digest;
 
 /// What the program's buffers hold; it skips a case that needs more.
@@ -20,6 +23,7 @@ const TABLE_ROOM: usize = 144;
 const READ: u32 = 0;
 const CHECK: u32 = 1;
 const LOOKUPS: u32 = 2;
+const COLLECTION: u32 = 3;
 
 /// A case without the length in front, its line, and the sort of answer, by which cases are counted.
 #[derive(Clone, Debug)]
@@ -29,19 +33,29 @@ pub struct Case {
     pub sort: String,
 }
 
-/// Any case. The longer a case, the fewer are kept, so that many cases make no large file.
+/// Any case. Of a kind, the longer a case, the fewer are kept, so that many cases make no large file; the
+/// longest heaps are left to the edge cases.
 pub fn any_case(random: &mut Random) -> Case {
-    const KEPT_BYTES: usize = 256;
+    const KEPT_BYTES: usize = 96;
+    const MOST_BYTES: usize = 3584;
+    let make: fn(&mut Random) -> Case = match random.below(100) {
+        0..=24 => |random| check(&any_input(random)),
+        25..=60 => |random| lookups(&any_question(random)),
+        61..=63 => any_read,
+        _ => any_collection_case,
+    };
     loop {
-        let case = match random.below(20) {
-            0..=11 => check(&any_input(random)),
-            12..=18 => lookups(&any_question(random)),
-            _ => any_read(random),
-        };
-        if random.below(case.bytes.len()) < KEPT_BYTES {
+        let case = make(random);
+        let bytes = case.bytes.len();
+        if bytes <= MOST_BYTES && random.below(bytes) < KEPT_BYTES {
             return case;
         }
     }
+}
+
+/// A collection of any length.
+pub fn any_collection_case(random: &mut Random) -> Case {
+    collection(&any_collection(random))
 }
 
 /// Words of both sizes that are only read: the line is their digest.

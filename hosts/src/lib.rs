@@ -1,5 +1,6 @@
 //! An independent reading of what the library promises, makers of inputs, and cases written from both.
 
 pub mod cases;
+mod examples;
 pub mod plain;
 pub mod random;

@@ -1,10 +1,12 @@
 //! The statement read place by place, as simply as possible and apart from the library.
 //! Nothing here is meant to be fast: it is what the library's answers are held against.
 
+mod collect;
 mod lookup;
 #[cfg(test)]
 mod tests;
 
+pub use collect::{collect, Collected};
 pub use lookup::{live_table, new_to_old, offset_table, old_to_new};
 
 pub const MOST_HEAP_WORDS: usize = 8192;

@@ -1,7 +1,9 @@
 //! A small deterministic generator of numbers; its folder makes inputs from them.
 
+pub mod collections;
 pub mod damage;
 pub mod heaps;
+pub mod orders;
 pub mod tables;
 
 /// SplitMix64: the same seed always gives the same numbers.

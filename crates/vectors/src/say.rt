@@ -1,4 +1,5 @@
 // The lines that the program writes.
+use compactor::Collected;
 use libc::STDOUT_FILENO;
 use objects::Checked;
 use tables::Lookup;
@@ -56,5 +57,28 @@ pub fn lookups(to_new: Lookup, to_old: Lookup) {
     text(b"lookups");
     found(to_new);
     found(to_old);
+    text(b"\n");
+}
+
+// With a digest of what the collection left.
+pub fn collection(answer: Collected, left: u64) {
+    match answer {
+        Collected::Done(top, objects, blocks) => {
+            text(b"collect ");
+            number(top);
+            text(b" ");
+            number(objects);
+            text(b" ");
+            number(blocks);
+        }
+        Collected::Refused(by, place) => {
+            text(b"collect refused ");
+            number(by);
+            text(b" at ");
+            number(place);
+        }
+    }
+    text(b" ");
+    io::print_hex(STDOUT_FILENO, left, 16);
     text(b"\n");
 }

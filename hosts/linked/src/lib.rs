@@ -1,3 +1,4 @@
-//! The static library `hasurimba`, linked and behind safe wrappers.
+//! The static library `hasurimba`, linked and behind safe wrappers, and a compactor to measure beside it.
 
+pub mod compactor;
 pub mod library;

@@ -1,6 +1,6 @@
 //! The static library's functions as `include/hasurimba.h` declares them, behind safe wrappers.
 
-use hosts::plain::{Counts, Refusal};
+use hosts::plain::{Collected, Counts, Refusal};
 
 extern "C" {
     fn hasurimba_check(
@@ -11,6 +11,23 @@ extern "C" {
         roots_len: usize,
         marks: *const u64,
         marks_len: usize,
+        out: *mut u64,
+    ) -> u64;
+
+    fn hasurimba_collect(
+        heap: *mut u32,
+        heap_len: usize,
+        top: u32,
+        roots: *mut u32,
+        roots_len: usize,
+        marks: *mut u64,
+        marks_len: usize,
+        order: *const u32,
+        order_len: usize,
+        live: *mut u64,
+        live_len: usize,
+        offsets: *mut u32,
+        offsets_len: usize,
         out: *mut u64,
     ) -> u64;
 
@@ -66,6 +83,43 @@ pub fn check(heap: &[u32], top: u32, roots: &[u32], marks: &[u64]) -> Answer<Cou
     answer(code, out, |out| Counts {
         live: out[0],
         objects: out[1],
+    })
+}
+
+pub fn collect(
+    heap: &mut [u32],
+    top: u32,
+    roots: &mut [u32],
+    marks: &mut [u64],
+    order: &[u32],
+    live: &mut [u64],
+    offsets: &mut [u32],
+) -> Answer<Collected> {
+    let mut out = UNTOUCHED;
+    // Safety: every pointer comes with its own slice's length, no two slices overlap, and `out` has four
+    // words.
+    let code = unsafe {
+        hasurimba_collect(
+            heap.as_mut_ptr(),
+            heap.len(),
+            top,
+            roots.as_mut_ptr(),
+            roots.len(),
+            marks.as_mut_ptr(),
+            marks.len(),
+            order.as_ptr(),
+            order.len(),
+            live.as_mut_ptr(),
+            live.len(),
+            offsets.as_mut_ptr(),
+            offsets.len(),
+            out.as_mut_ptr(),
+        )
+    };
+    answer(code, out, |out| Collected {
+        live: out[0],
+        objects: out[1],
+        blocks: out[2],
     })
 }
 

@@ -1,8 +1,8 @@
 //! Writes the input of the program `vectors`, and what it has to write for it by the plain reading:
-//! the edge cases, then random ones.
+//! the edge cases, then random ones of all kinds, or collections alone.
 
 use hosts::cases::edges::edges;
-use hosts::cases::{any_case, Case};
+use hosts::cases::{any_case, any_collection_case, Case};
 use hosts::random::Random;
 use std::collections::BTreeMap;
 use std::fs::write;
@@ -10,8 +10,13 @@ use std::process::exit;
 
 fn main() {
     let arguments: Vec<String> = std::env::args().skip(1).collect();
-    let [cases, seed, input, output] = &arguments[..] else {
-        give_up("usage: vectors CASES SEED STDIN_FILE STDOUT_FILE");
+    let [cases, seed, input, output, kinds @ ..] = &arguments[..] else {
+        give_up("usage: vectors CASES SEED STDIN_FILE STDOUT_FILE [collections]");
+    };
+    let make = match kinds {
+        [] => any_case,
+        [kind] if kind == "collections" => any_collection_case,
+        _ => give_up("the only kind to be had alone is: collections"),
     };
     let (Ok(cases), Ok(seed)) = (cases.parse::<u64>(), seed.parse::<u64>()) else {
         give_up("CASES and SEED are numbers");
@@ -22,7 +27,7 @@ fn main() {
     }
     let mut random = Random::new(seed);
     for _ in 0..cases {
-        files.add(any_case(&mut random));
+        files.add(make(&mut random));
     }
     if write(input, &files.input).is_err() || write(output, &files.output).is_err() {
         give_up("a file cannot be written");

@@ -1,5 +1,7 @@
 //! Cases at the edges: each limit and one beyond it, the last places, and cases of a wrong kind or size.
 
+mod collections;
+
 use super::{bytes, check, lookups, read, skipped, Case, ROOT_ROOM, TABLE_ROOM};
 use crate::plain::{offset_table, MOST_BLOCKS, MOST_HEAP_WORDS, MOST_ROOTS, NIL};
 use crate::random::heaps::{good, reference_to, Input, Mix};
@@ -19,6 +21,7 @@ pub fn edges() -> Vec<Case> {
         full_heaps(),
         tables(),
         entries(),
+        collections::collections(),
         wrong_cases(),
     ];
     groups.into_iter().flatten().collect()

@@ -1,8 +1,12 @@
-//! Times the library's check on full heaps, beside a walk that judges nothing. Not a test.
+//! Times the library's check and collection on full heaps, beside a walk that judges nothing and a plain
+//! compactor that checks nothing. Not a test.
 
 use hosts::plain::{self, Counts};
-use hosts::random::heaps::{good, Input, Mix};
+use hosts::random::collections::Collection;
+use hosts::random::heaps::{good, Mix};
+use hosts::random::orders::{ascending, waits_of};
 use hosts::random::Random;
+use linked::compactor::compact;
 use linked::library;
 use std::hint::black_box;
 use std::time::Instant;
@@ -14,28 +18,44 @@ const ROOTS: usize = 64;
 const SHARES: [(&str, usize); 3] = [("one quarter", 25), ("one half", 50), ("nine tenths", 90)];
 
 /// A way to go over a heap, and what it is called in the table.
-type Engine = (&'static str, fn(&Input));
+type Engine = (&'static str, fn(&mut Collection));
 
-const ENGINES: [Engine; 2] = [("library check", run_library), ("unchecked walk", run_walk)];
+/// The columns of the table; `print_row` adds the ratio of the last two.
+const ENGINES: [Engine; 4] = [
+    ("bare walk", run_walk),
+    ("check", run_check),
+    ("collection", run_collection),
+    ("plain compactor", run_compactor),
+];
 
 fn main() {
     println!("{HEAPS} heaps of {HEAP_WORDS} words for each share, {ROUNDS} rounds; microseconds per call");
-    println!(
-        "{:<12} {:<15} {:>8} {:>8}",
-        "live words", "engine", "median", "minimum"
-    );
+    print!("{:<12} {:<8}", "live words", "rounds");
+    for (name, _) in ENGINES {
+        print!(" {name:>15}");
+    }
+    println!(" {:>10} to plain", "collection");
     let mut random = Random::new(1);
     for (share, percent) in SHARES {
         let heaps = make_heaps(&mut random, percent);
-        for (name, run) in ENGINES {
-            let (median, minimum) = time(&heaps, run);
-            println!("{share:<12} {name:<15} {median:>8.2} {minimum:>8.2}");
-        }
+        heaps.iter().for_each(verify);
+        let rounds = time(&heaps);
+        print_row(share, "median", rounds.each_ref().map(|times| times[ROUNDS / 2]));
+        print_row(share, "minimum", rounds.each_ref().map(|times| times[0]));
     }
 }
 
-/// The heaps of one share; each must be accepted, since a refusal would end the check early.
-fn make_heaps(random: &mut Random, live: usize) -> Vec<Input> {
+fn print_row(share: &str, which: &str, times: [f64; ENGINES.len()]) {
+    print!("{share:<12} {which:<8}");
+    for time in times {
+        print!(" {time:>15.2}");
+    }
+    let [.., collection, plain_compactor] = times;
+    println!(" {:>19.2}", collection / plain_compactor);
+}
+
+/// The heaps of one share, with ascending orders.
+fn make_heaps(random: &mut Random, live: usize) -> Vec<Collection> {
     let mix = Mix {
         records: 80,
         record_fields: (2, 8),
@@ -44,45 +64,111 @@ fn make_heaps(random: &mut Random, live: usize) -> Vec<Input> {
         references: 50,
         live,
     };
-    let heaps: Vec<Input> = (0..HEAPS)
-        .map(|_| good(random, HEAP_WORDS, HEAP_WORDS, ROOTS, &mix))
-        .collect();
-    for input in &heaps {
-        let expected = plain::check(&input.heap, input.top, &input.roots, &input.marks);
-        let answer = library::check(&input.heap, input.top, &input.roots, &input.marks);
-        assert!(expected.is_ok(), "a good heap is refused: {expected:?}");
-        assert_eq!(answer.result, expected);
-        assert_eq!(Ok(walk(input).0), expected);
+    (0..HEAPS)
+        .map(|_| {
+            let input = good(random, HEAP_WORDS, HEAP_WORDS, ROOTS, &mix);
+            let order = ascending(&waits_of(&plain::live_table(
+                &input.heap,
+                input.top,
+                &input.marks,
+            )));
+            Collection::new(random, input, order)
+        })
+        .collect()
+}
+
+/// Each heap must be accepted, since a refusal would end a call early, and both ways to collect it must leave
+/// the same heap, roots and marks.
+fn verify(before: &Collection) {
+    let expected = plain::check(&before.heap, before.top, &before.roots, &before.marks);
+    let checked = library::check(&before.heap, before.top, &before.roots, &before.marks);
+    assert!(expected.is_ok(), "a good heap is refused: {expected:?}");
+    assert_eq!(checked.result, expected);
+    assert_eq!(Ok(walk(before).0), expected);
+    let mut left = before.clone();
+    let collected = collect(&mut left);
+    let mut due = before.clone();
+    let live = compact(&mut due.heap, due.top as usize, &mut due.roots, &mut due.marks);
+    assert_eq!(collected.result.map(|answer| answer.live), Ok(live as u64));
+    assert!(
+        left.heap == due.heap && left.roots == due.roots && left.marks == due.marks,
+        "library and plain compactor leave different heaps, roots or marks"
+    );
+}
+
+/// The sorted microseconds per call of each engine, one for each round.
+fn time(heaps: &[Collection]) -> [Vec<f64>; ENGINES.len()] {
+    let mut copies = heaps.to_vec();
+    let mut rounds = ENGINES.map(|_| Vec::with_capacity(ROUNDS));
+    for _ in 0..ROUNDS {
+        for ((_, run), times) in ENGINES.iter().zip(&mut rounds) {
+            copies
+                .iter_mut()
+                .zip(heaps)
+                .for_each(|(copy, heap)| restore(copy, heap));
+            times.push(time_round(&mut copies, *run));
+        }
     }
-    heaps
+    for times in &mut rounds {
+        times.sort_by(f64::total_cmp);
+    }
+    rounds
 }
 
-/// Median and minimum over all rounds of the microseconds per call, a round being all heaps once.
-fn time(heaps: &[Input], run: fn(&Input)) -> (f64, f64) {
-    let mut rounds: Vec<f64> = (0..ROUNDS).map(|_| time_round(heaps, run)).collect();
-    rounds.sort_by(f64::total_cmp);
-    (rounds[ROUNDS / 2], rounds[0])
+/// All that a collection writes, as it was.
+fn restore(copy: &mut Collection, heap: &Collection) {
+    copy.heap.copy_from_slice(&heap.heap);
+    copy.roots.copy_from_slice(&heap.roots);
+    copy.marks.copy_from_slice(&heap.marks);
+    copy.live.copy_from_slice(&heap.live);
+    copy.offsets.copy_from_slice(&heap.offsets);
 }
 
-fn time_round(heaps: &[Input], run: fn(&Input)) -> f64 {
+/// One engine over all heaps once, each a fresh copy.
+fn time_round(copies: &mut [Collection], run: fn(&mut Collection)) -> f64 {
     let start = Instant::now();
-    for input in heaps {
-        run(black_box(input));
+    for copy in copies.iter_mut() {
+        run(black_box(copy));
     }
-    start.elapsed().as_secs_f64() * 1e6 / heaps.len() as f64
+    start.elapsed().as_secs_f64() * 1e6 / copies.len() as f64
 }
 
-fn run_library(input: &Input) {
-    black_box(library::check(&input.heap, input.top, &input.roots, &input.marks));
+fn run_walk(copy: &mut Collection) {
+    black_box(walk(copy));
 }
 
-fn run_walk(input: &Input) {
-    black_box(walk(input));
+fn run_check(copy: &mut Collection) {
+    black_box(library::check(&copy.heap, copy.top, &copy.roots, &copy.marks));
+}
+
+fn run_collection(copy: &mut Collection) {
+    black_box(collect(copy));
+}
+
+fn run_compactor(copy: &mut Collection) {
+    black_box(compact(
+        &mut copy.heap,
+        copy.top as usize,
+        &mut copy.roots,
+        &mut copy.marks,
+    ));
+}
+
+fn collect(copy: &mut Collection) -> library::Answer<plain::Collected> {
+    library::collect(
+        &mut copy.heap,
+        copy.top,
+        &mut copy.roots,
+        &mut copy.marks,
+        &copy.order,
+        &mut copy.live,
+        &mut copy.offsets,
+    )
 }
 
 /// Counts live words and marked objects and comes by every reference, but judges none of it.
 /// The places referred to are added up, so that the fields have to be read.
-fn walk(input: &Input) -> (Counts, u64) {
+fn walk(input: &Collection) -> (Counts, u64) {
     let mut counts = Counts { live: 0, objects: 0 };
     let mut places: u64 = 0;
     let mut place = 0;

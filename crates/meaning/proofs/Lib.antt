@@ -23,3 +23,15 @@ pub mod CollectedHeap
 pub mod CollectionSays
 pub mod CollectionLeaves
 pub mod CasesHold
+pub mod Births
+pub mod SameStore
+pub mod SameKept
+pub mod SameWord
+pub mod CallsSame
+pub mod ListJudged
+pub mod ListKept
+pub mod CollectsSame
+pub mod DemandThree
+pub mod CallCasesHold
+pub mod ListAnswers
+pub mod ListRoom

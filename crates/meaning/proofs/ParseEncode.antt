@@ -37,7 +37,7 @@ pub kind-two : (o : Object) → kind o < 2
 kind-two (rec ws) = omega arith
 kind-two (raw ws) = omega arith
 
-header-legal : (o : Object) → length (payload o) ≤ payloadWords → legalHeader (4 * length (payload o) + kind o) ≡ true
+pub header-legal : (o : Object) → length (payload o) ≤ payloadWords → legalHeader (4 * length (payload o) + kind o) ≡ true
 header-legal o h =
     let k = kind-two o in
     rw (lt-ltb (4 * length (payload o) + kind o) (4 * (payloadWords + 1)) (omega arith), lt-ltb ((4 * length (payload o) + kind o) % 4) 2 (omega arith))

@@ -9,4 +9,10 @@ pub mod Words
 pub mod Blocks
 pub mod Collect
 pub mod Lookups
+pub mod Calls
+pub mod Store
+pub mod SimpleList
+pub mod ListCollect
+pub mod Sequences
+pub mod CallCases
 pub mod Cases

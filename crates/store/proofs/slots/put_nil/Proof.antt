@@ -1,0 +1,88 @@
+use mathlib.Core.Path.{_≡_, refl, sym, _∙_}
+use mathlib.Core.Bool.{true, false}
+use borrow.Author.Tests.{lt-ltb, le-ltb, not-true, not-false}
+use denote.Ref.{now}
+use Rattle.meaning.specs.Calls.{fits, admit}
+use Rattle.meaning.specs.Store.{viewOf, answered}
+use Rattle.store.specs.declared.Said.the-variants.{Done}
+use Rattle.store.specs.Contract.{memOf}
+use Rattle.store.proofs.CallsLeave.{leaves-refused, leaves-told}
+use borrow.Author.Needs.{needs}
+use Rattle.store.proofs.slots.put_nil.Statement.{statement}
+use Rattle.store.proofs.slots.put_nil.Tie as tie
+use Rattle.store.proofs.slots.put_nil.Reads as reads
+use Rattle.store.proofs.slots.put_nil.Lts as lts
+use Rattle.store.proofs.fits.Reads as fits-reads
+use Rattle.store.proofs.refused.Reads as refused-reads
+use Rattle.store.proofs.told.Reads as told-reads
+
+ok : (c : tie.Else1) → let a = c .before .before .before .before .before .args in fits (viewOf (memOf (now (a .heap)) (now (a .roots)) (a .store))) ≡ true
+ok c = sym (c .before .fits2 .ensures) ∙ not-false (c .before .fits2 .result) (c .if1 .left)
+
+-- src/lib.rt:68:9
+fits-requires : tie.Need-fits-requires
+fits-requires c κs = search needs
+
+-- src/lib.rt:69:9
+refused-requires : tie.Need-refused-requires
+refused-requires c κs = search needs
+
+-- src/lib.rt:69:9
+same-length : tie.Need-same-length
+same-length c = search needs
+
+-- src/lib.rt:69:9
+returns : tie.Need-returns
+unfolding answered admit
+returns c = leaves-refused (rw (← c .before .before .fits2 .ensures, not-true (c .before .before .fits2 .result) (c .before .if1 .taken))) (c .refused .ensures)
+
+-- src/lib.rt:72:9
+refused-requires-2 : tie.Need-refused-requires-2
+refused-requires-2 c κs = search needs
+
+-- src/lib.rt:72:9
+same-length-2 : tie.Need-same-length-2
+same-length-2 c = search needs
+
+-- src/lib.rt:72:9
+returns-2 : tie.Need-returns-2
+unfolding answered admit
+returns-2 c = leaves-refused (rw (ok (c .before .before), le-ltb _ _ (c .before .if2 .taken))) (c .refused2 .ensures)
+
+-- src/lib.rt:74:5
+mul-roots : tie.Need-mul-roots
+mul-roots c = search needs
+
+-- src/lib.rt:74:5
+slice-write-roots : tie.Need-slice-write-roots
+slice-write-roots c = search needs
+
+-- src/lib.rt:75:5
+told-requires : tie.Need-told-requires
+told-requires c κs = search needs
+
+-- src/lib.rt:65:1
+same-length-3 : tie.Need-same-length-3
+same-length-3 c = search needs
+
+-- src/lib.rt:65:1
+returns-3 : tie.Need-returns-3
+unfolding answered admit
+returns-3 c = leaves-told (c .before .before .before .before .before .before .before .args .store) Done (rw (ok (c .before .before), lt-ltb _ _ (c .before .if2 .left))) (c .told .ensures) refl refl
+
+pub put-nil-spec : {M : Type 1} → statement M
+put-nil-spec =
+    tie.close
+    (tie.spec
+    fits-requires
+    refused-requires
+    same-length
+    returns
+    refused-requires-2
+    same-length-2
+    returns-2
+    mul-roots
+    slice-write-roots
+    told-requires
+    same-length-3
+    returns-3)

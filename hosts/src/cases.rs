@@ -1,5 +1,6 @@
 //! Cases for the program `vectors`: the bytes that it reads, and the line that it has to write for them.
 
+mod calls;
 mod collections;
 mod digest;
 pub mod edges;
@@ -7,11 +8,13 @@ pub mod edges;
 mod tests;
 
 use crate::plain::{self, Refusal};
+use crate::random::calls::any_sequence;
 use crate::random::collections::any_collection;
 use crate::random::damage::any_input;
 use crate::random::heaps::Input;
 use crate::random::tables::{any_question, Question};
 use crate::random::Random;
+pub use calls::calls;
 pub use collections::collection;
 use digest::Digest;
 
@@ -24,13 +27,30 @@ const READ: u32 = 0;
 const CHECK: u32 = 1;
 const LOOKUPS: u32 = 2;
 const COLLECTION: u32 = 3;
+const CALLS: u32 = 4;
 
-/// A case without the length in front, its line, and the sort of answer, by which cases are counted.
+/// The longest case that the program reads; after a longer one it ends.
+const LONGEST_CASE: usize = 65536;
+
+/// A case without the length in front, its line, and the sort of answer, by which cases are counted. Of a call
+/// sequence each answer is counted too.
 #[derive(Clone, Debug)]
 pub struct Case {
     pub bytes: Vec<u8>,
     pub line: String,
     pub sort: String,
+    pub answers: Vec<String>,
+}
+
+impl Case {
+    fn of(bytes: Vec<u8>, line: String, sort: impl Into<String>) -> Case {
+        Case {
+            bytes,
+            line,
+            sort: sort.into(),
+            answers: Vec::new(),
+        }
+    }
 }
 
 /// Any case. Of a kind, the longer a case, the fewer are kept, so that many cases make no large file; the
@@ -39,10 +59,11 @@ pub fn any_case(random: &mut Random) -> Case {
     const KEPT_BYTES: usize = 96;
     const MOST_BYTES: usize = 3584;
     let make: fn(&mut Random) -> Case = match random.below(100) {
-        0..=24 => |random| check(&any_input(random)),
-        25..=60 => |random| lookups(&any_question(random)),
-        61..=63 => any_read,
-        _ => any_collection_case,
+        0..=21 => |random| check(&any_input(random)),
+        22..=53 => |random| lookups(&any_question(random)),
+        54..=56 => any_read,
+        57..=88 => any_collection_case,
+        _ => short_calls_case,
     };
     loop {
         let case = make(random);
@@ -58,6 +79,21 @@ pub fn any_collection_case(random: &mut Random) -> Case {
     collection(&any_collection(random))
 }
 
+fn short_calls_case(random: &mut Random) -> Case {
+    let steps = random.between(5, 25);
+    calls(&any_sequence(random, steps))
+}
+
+/// A hundred calls, from the empty store or from any state.
+pub fn any_calls_case(random: &mut Random) -> Case {
+    loop {
+        let case = calls(&any_sequence(random, 100));
+        if case.bytes.len() <= LONGEST_CASE {
+            return case;
+        }
+    }
+}
+
 /// Words of both sizes that are only read: the line is their digest.
 pub fn read(words: &[u32], pairs: &[u64]) -> Case {
     let mut case = vec![READ, words.len() as u32, pairs.len() as u32];
@@ -69,11 +105,7 @@ pub fn read(words: &[u32], pairs: &[u64]) -> Case {
     let mut digest = Digest::start();
     digest.add_words(words);
     digest.add_pairs(pairs);
-    Case {
-        bytes: bytes(&case),
-        line: format!("read {:016x}", digest.value()),
-        sort: "read".to_string(),
-    }
+    Case::of(bytes(&case), format!("read {:016x}", digest.value()), "read")
 }
 
 fn any_read(random: &mut Random) -> Case {
@@ -104,11 +136,7 @@ pub fn check(input: &Input) -> Case {
             format!("check refused {number}"),
         ),
     };
-    Case {
-        bytes: bytes(&case),
-        line,
-        sort,
-    }
+    Case::of(bytes(&case), line, sort)
 }
 
 /// Both lookups, of the same place in the same tables.
@@ -122,11 +150,11 @@ pub fn lookups(question: &Question) -> Case {
     }
     let (new_place, new_sort) = found(plain::old_to_new(live, offsets, *place));
     let (old_place, old_sort) = found(plain::new_to_old(live, offsets, *place));
-    Case {
-        bytes: bytes(&case),
-        line: format!("lookups {new_place} {old_place}"),
-        sort: format!("lookups {new_sort}, {old_sort}"),
-    }
+    Case::of(
+        bytes(&case),
+        format!("lookups {new_place} {old_place}"),
+        format!("lookups {new_sort}, {old_sort}"),
+    )
 }
 
 /// A lookup's answer as the line has it, and its sort.
@@ -140,11 +168,7 @@ fn found(answer: Result<Option<u64>, Refusal>) -> (String, &'static str) {
 
 /// A case of a wrong kind or size.
 pub fn skipped(bytes: Vec<u8>) -> Case {
-    Case {
-        bytes,
-        line: "skipped".to_string(),
-        sort: "skipped".to_string(),
-    }
+    Case::of(bytes, "skipped".to_string(), "skipped")
 }
 
 /// Words as the program reads them.

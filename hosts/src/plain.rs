@@ -1,13 +1,19 @@
 //! The statement read place by place, as simply as possible and apart from the library.
 //! Nothing here is meant to be fast: it is what the library's answers are held against.
 
+mod calls;
 mod collect;
+mod list;
 mod lookup;
+mod store;
 #[cfg(test)]
 mod tests;
 
+pub use calls::{Answer, Brought, Call, Said, Store};
 pub use collect::{collect, Collected};
+pub use list::List;
 pub use lookup::{live_table, new_to_old, offset_table, old_to_new};
+pub use store::{answer, collect_call};
 
 pub const MOST_HEAP_WORDS: usize = 8192;
 pub const MOST_ROOTS: usize = 64;

@@ -1,5 +1,6 @@
 //! A small deterministic generator of numbers; its folder makes inputs from them.
 
+pub mod calls;
 pub mod collections;
 pub mod damage;
 pub mod heaps;

@@ -4,3 +4,6 @@ pub mod Finding
 pub mod CollectLeaves
 pub mod Put
 pub mod BirthsAre
+pub mod Settled
+pub mod Sequence
+pub mod Links

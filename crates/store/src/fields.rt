@@ -1,12 +1,12 @@
 // The calls about the object that a slot holds: asking what it is, and its fields and raw words read and written.
 ghost use mathlib.Core.Path.{_≡_};
-ghost use Prim.Native.Nat.{_≤_, _<_};
-ghost use lib.ListN.{length, getD};
+ghost use Prim.Native.Nat.{_≤_};
+ghost use lib.ListN.{length};
 ghost use Rattle.meaning.specs.Values.{valueOf, ref};
 ghost use Rattle.meaning.specs.Answers.{gives};
 ghost use Rattle.meaning.specs.Calls.{find as findOf, ask as askCall, readField, writeField, readRaw, writeRaw};
 ghost use Rattle.meaning.specs.Store.{shownValue, asked as askedOf, answered};
-ghost use Rattle.store.specs.Contract.{memOf, Leaves, saidOf, seenOf, foundOf, finding};
+ghost use Rattle.store.specs.Contract.{memOf, Leaves, saidOf, seenOf, foundOf, noObject, fieldOf, Finds};
 use crate::Answer;
 use crate::Said;
 use crate::Store;
@@ -57,30 +57,38 @@ fn see(heap: &[u32], top: u32, word: u32) -> Seen
     }
 }
 
-// Where the object is that a call is about, or a refusal's number and place.
+// Where the word is in the heap that a call is about, or a refusal's number and place.
 pub enum Found {
-    At(u32),
+    At(usize),
     No(u32, u32),
+}
+
+// The refusal where a slot holds no object: 13 for a reference to none, else 8.
+fn no_object(seen: Seen) -> u32
+    ensures { λ r. ⌜ r ≡ noObject (seenOf seen) ⌝ }
+{
+    match seen {
+        Seen::Stray => 13,
+        Seen::Number(_) => 8,
+        Seen::Empty => 8,
+        Seen::Object(_, _, _) => 8,
+    }
 }
 
 // Refusals 13, 8 and 9: the object must be of this kind and have the field.
 fn locate(kind: u32, object: u32, field: u32, seen: Seen) -> Found
-    ensures { λ r. ⌜ foundOf r ≡ findOf kind object field (seenOf seen) ⌝ }
+    ensures { λ r. ⌜ foundOf r ≡ fieldOf field (findOf kind object field (seenOf seen)) ⌝ }
 {
-    match seen {
-        Seen::Number(_) => Found::No(8, object),
-        Seen::Empty => Found::No(8, object),
-        Seen::Stray => Found::No(13, object),
-        Seen::Object(place, found, count) => {
-            if found != kind {
-                return Found::No(8, object);
-            }
-            if count <= field {
-                return Found::No(9, field);
-            }
-            Found::At(place)
-        }
+    let Seen::Object(place, found, count) = seen else {
+        return Found::No(no_object(seen), object);
+    };
+    if found != kind {
+        return Found::No(8, object);
     }
+    if count <= field {
+        return Found::No(9, field);
+    }
+    Found::At(place as usize + 1 + field as usize)
 }
 
 // Refusals 1 and 7 first; `other` is the call's second slot, or the first again.
@@ -93,7 +101,7 @@ fn find(
     field: u32,
     other: u32,
 ) -> Found
-    ensures { λ r. ⌜ foundOf r ≡ finding (memOf (now (heap .entry)) (now (roots .entry)) store) kind object field other ⌝ }
+    ensures { λ r. ⌜ Finds (memOf (now (heap .entry)) (now (roots .entry)) store) kind object field other r ⌝ }
 {
     if !fits(store, heap, roots) {
         return Found::No(1, 0);
@@ -158,8 +166,8 @@ pub fn read_field(
     let found = find(store, heap, roots, 0, object, field, target);
     match found {
         Found::No(number, place) => refused(store, number, place),
-        Found::At(place) => {
-            roots[target as usize] = heap[place as usize + 1 + field as usize];
+        Found::At(at) => {
+            roots[target as usize] = heap[at];
             told(store, Said::Done)
         }
     }
@@ -180,8 +188,8 @@ pub fn write_field(
     let found = find(store, heap, roots, 0, object, field, source);
     match found {
         Found::No(number, place) => refused(store, number, place),
-        Found::At(place) => {
-            heap[place as usize + 1 + field as usize] = roots[source as usize];
+        Found::At(at) => {
+            heap[at] = roots[source as usize];
             told(store, Said::Done)
         }
     }
@@ -195,7 +203,7 @@ pub fn read_raw(store: Store, heap: &[u32], roots: &[u32], object: u32, field: u
     let found = find(store, heap, roots, 1, object, field, object);
     match found {
         Found::No(number, place) => refused(store, number, place),
-        Found::At(place) => { told(store, Said::Word(heap[place as usize + 1 + field as usize])) }
+        Found::At(at) => { told(store, Said::Word(heap[at])) }
     }
 }
 
@@ -214,8 +222,8 @@ pub fn write_raw(
     let found = find(store, heap, roots, 1, object, field, object);
     match found {
         Found::No(number, place) => refused(store, number, place),
-        Found::At(place) => {
-            heap[place as usize + 1 + field as usize] = word;
+        Found::At(at) => {
+            heap[at] = word;
             told(store, Said::Done)
         }
     }

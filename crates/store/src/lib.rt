@@ -4,6 +4,7 @@ ghost use Rattle.meaning.specs.Calls.{fits as fitsOf};
 ghost use Rattle.meaning.specs.Store.{viewOf};
 ghost use Rattle.store.specs.Contract.{memOf, refusedOf, toldOf};
 
+pub mod answering;
 pub mod births;
 pub mod collecting;
 pub mod fields;
@@ -34,6 +35,21 @@ pub enum Said {
 pub struct Answer {
     pub store: Store,
     pub said: Said,
+}
+
+// A call with its numbers, in the order of the functions' parameters. A collection is no such call: it borrows more.
+pub enum Call {
+    PutInt(u32, i32),
+    PutNil(u32),
+    Copy(u32, u32),
+    NewRecord(u32, u32),
+    NewRaw(u32, u32),
+    ReadField(u32, u32, u32),
+    WriteField(u32, u32, u32),
+    ReadRaw(u32, u32),
+    WriteRaw(u32, u32, u32),
+    Ask(u32),
+    Same(u32, u32),
 }
 
 // Refusal 1: whether heap, top and slots fit.

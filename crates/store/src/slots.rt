@@ -41,7 +41,7 @@ pub fn put_nil(store: Store, heap: &[u32], roots: &mut [u32], slot: u32) -> Answ
     if roots.len() <= slot as usize {
         return refused(store, 7, slot);
     }
-    roots[slot as usize] = 4294967295;
+    roots[slot as usize] = Word::NIL.bits();
     told(store, Said::Done)
 }
 

@@ -2,6 +2,13 @@
 ghost use Prim.Native.Nat.{_+_, _*_, _<_, _≤_};
 ghost use Rattle.io.specs.Counts.{Counts};
 
+// The buffers are larger than the library's limits, so that it is seen to refuse what is too long.
+pub const HEAP_ROOM: usize = 8256;
+
+pub const ROOT_ROOM: usize = 72;
+
+pub const TABLE_ROOM: usize = 144;
+
 // A function, since a cast of an element asks for a proof that it fits.
 fn wide(byte: u8) -> u32
     ensures { λ r. ⌜ r < 256 ⌝ }
@@ -22,7 +29,7 @@ pub fn word(case: &[u8], i: usize) -> u32 {
 }
 
 // Words number i and i + 1 as one, the low half first.
-fn pair(case: &[u8], i: usize) -> u64
+pub fn pair(case: &[u8], i: usize) -> u64
     requires { ⌜ i < 18446744073709551615 ⌝ }
 {
     word(case, i) as u64 + 4294967296 * (word(case, i + 1) as u64)

@@ -1,14 +1,12 @@
-// One case of each kind. The buffers are larger than the library's limits, so that it is seen to refuse what is too long.
+// One case of each kind.
+use crate::calls;
 use crate::case;
+use crate::case::HEAP_ROOM;
+use crate::case::ROOT_ROOM;
+use crate::case::TABLE_ROOM;
 use crate::digest;
 use crate::say;
 use words::Place;
-
-const HEAP_ROOM: usize = 8256;
-
-const ROOT_ROOM: usize = 72;
-
-const TABLE_ROOM: usize = 144;
 
 // The answer to one case, as a line.
 pub fn run(case: &[u8]) {
@@ -17,6 +15,7 @@ pub fn run(case: &[u8]) {
         1 => check(case),
         2 => lookups(case),
         3 => collect(case),
+        4 => calls::calls(case),
         _ => say::skipped(),
     }
 }

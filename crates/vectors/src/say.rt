@@ -1,7 +1,10 @@
 // The lines that the program writes.
+use crate::digest::size;
 use compactor::Collected;
 use libc::STDOUT_FILENO;
 use objects::Checked;
+use store::Said;
+use store::Store;
 use tables::Lookup;
 
 fn text(bytes: &[u8]) {
@@ -80,5 +83,66 @@ pub fn collection(answer: Collected, left: u64) {
     }
     text(b" ");
     io::print_hex(STDOUT_FILENO, left, 16);
+    text(b"\n");
+}
+
+// A sequence's record and digest; the last answer follows.
+pub fn calls(record: Store, left: u64) {
+    text(b"calls ");
+    number(record.top);
+    text(b" ");
+    io::print_decimal(STDOUT_FILENO, record.calls);
+    text(b" ");
+    io::print_hex(STDOUT_FILENO, left, 16);
+}
+
+// Of a sequence without steps.
+pub fn nothing_said() {
+    text(b" none\n");
+}
+
+fn signed(value: i32) {
+    if value < 0 {
+        text(b"-");
+        io::print_decimal(STDOUT_FILENO, size(value) as u64 + 1);
+    } else {
+        number(size(value));
+    }
+}
+
+fn with_number(name: &[u8], n: u32) {
+    text(name);
+    number(n);
+}
+
+// What a call says.
+pub fn said(said: Said) {
+    match said {
+        Said::Done => text(b" done"),
+        Said::Integer(value) => {
+            text(b" integer ");
+            signed(value);
+        }
+        Said::Nil => text(b" nil"),
+        Said::Record(count) => with_number(b" record ", count),
+        Said::Raw(count) => with_number(b" raw ", count),
+        Said::Word(word) => with_number(b" word ", word),
+        Said::Same(same) => {
+            if same {
+                text(b" same true");
+            } else {
+                text(b" same false");
+            }
+        }
+        Said::Collected(top, objects, blocks) => {
+            with_number(b" collected ", top);
+            with_number(b" ", objects);
+            with_number(b" ", blocks);
+        }
+        Said::Refused(by, place) => {
+            with_number(b" refused ", by);
+            with_number(b" at ", place);
+        }
+    }
     text(b"\n");
 }

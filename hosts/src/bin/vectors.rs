@@ -1,8 +1,8 @@
 //! Writes the input of the program `vectors`, and what it has to write for it by the plain reading:
-//! the edge cases, then random ones of all kinds, or collections alone.
+//! the edge cases, then random ones of all kinds, or collections or call sequences alone.
 
 use hosts::cases::edges::edges;
-use hosts::cases::{any_case, any_collection_case, Case};
+use hosts::cases::{any_calls_case, any_case, any_collection_case, Case};
 use hosts::random::Random;
 use std::collections::BTreeMap;
 use std::fs::write;
@@ -11,12 +11,13 @@ use std::process::exit;
 fn main() {
     let arguments: Vec<String> = std::env::args().skip(1).collect();
     let [cases, seed, input, output, kinds @ ..] = &arguments[..] else {
-        give_up("usage: vectors CASES SEED STDIN_FILE STDOUT_FILE [collections]");
+        give_up("usage: vectors CASES SEED STDIN_FILE STDOUT_FILE [collections|calls]");
     };
     let make = match kinds {
         [] => any_case,
         [kind] if kind == "collections" => any_collection_case,
-        _ => give_up("the only kind to be had alone is: collections"),
+        [kind] if kind == "calls" => any_calls_case,
+        _ => give_up("the kinds to be had alone are: collections, calls"),
     };
     let (Ok(cases), Ok(seed)) = (cases.parse::<u64>(), seed.parse::<u64>()) else {
         give_up("CASES and SEED are numbers");
@@ -57,6 +58,8 @@ impl Files {
         self.input.extend(case.bytes);
         self.output.push_str(&case.line);
         self.output.push('\n');
-        *self.tally.entry(case.sort).or_default() += 1;
+        for sort in case.answers.into_iter().chain([case.sort]) {
+            *self.tally.entry(sort).or_default() += 1;
+        }
     }
 }

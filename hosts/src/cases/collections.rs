@@ -24,11 +24,7 @@ pub fn collection(before: &Collection) -> Case {
             format!("collect refused {number}"),
         ),
     };
-    Case {
-        bytes,
-        line: format!("{answer} {:016x}", digest(&after)),
-        sort,
-    }
+    Case::of(bytes, format!("{answer} {:016x}", digest(&after)), sort)
 }
 
 /// The kind, top, all lengths, and then the buffers.

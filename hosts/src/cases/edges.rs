@@ -1,5 +1,6 @@
 //! Cases at the edges: each limit and one beyond it, the last places, and cases of a wrong kind or size.
 
+mod calls;
 mod collections;
 
 use super::{bytes, check, lookups, read, skipped, Case, ROOT_ROOM, TABLE_ROOM};
@@ -22,6 +23,7 @@ pub fn edges() -> Vec<Case> {
         tables(),
         entries(),
         collections::collections(),
+        calls::call_sequences(),
         wrong_cases(),
     ];
     groups.into_iter().flatten().collect()

@@ -22,11 +22,10 @@ pub struct Collection {
 impl Collection {
     /// With tables of the right length that hold something else than they should.
     pub fn new(random: &mut Random, input: Input, order: Vec<u32>) -> Collection {
-        let blocks = input.heap.len().div_ceil(64);
-        let sort = random.below(3);
+        let (live, offsets) = garbage_tables(random, input.heap.len());
         Collection {
-            live: (0..blocks).map(|_| garbage(random, sort)).collect(),
-            offsets: (0..blocks).map(|_| garbage(random, sort) as u32).collect(),
+            live,
+            offsets,
             heap: input.heap,
             top: input.top,
             roots: input.roots,
@@ -56,6 +55,15 @@ impl Collection {
     }
 }
 
+/// Of the right length for a heap.
+pub fn garbage_tables(random: &mut Random, heap_words: usize) -> (Vec<u64>, Vec<u32>) {
+    let blocks = heap_words.div_ceil(64);
+    let sort = random.below(3);
+    let live = (0..blocks).map(|_| garbage(random, sort)).collect();
+    let offsets = (0..blocks).map(|_| garbage(random, sort) as u32).collect();
+    (live, offsets)
+}
+
 fn garbage(random: &mut Random, sort: usize) -> u64 {
     match sort {
         0 => 0,
@@ -70,19 +78,19 @@ pub fn any_collection(random: &mut Random) -> Collection {
         6..=9 => any_good(random),
         _ => several_blocks(random),
     };
-    let waits = waits(random, &input);
+    let waits = waits(random, &input.heap, input.top, &input.roots, &input.marks);
     let order = any_order(random, &waits);
     let mut collection = Collection::new(random, input, order);
     if random.percent(4) {
-        change_a_length(random, &mut collection);
+        change_a_length(random, &mut collection.live, &mut collection.offsets);
     }
     collection
 }
 
 /// Where a refusal comes before the order is judged, the order is made for any number of steps.
-fn waits(random: &mut Random, input: &Input) -> Vec<Vec<u32>> {
-    match plain::check(&input.heap, input.top, &input.roots, &input.marks) {
-        Ok(_) => waits_of(&plain::live_table(&input.heap, input.top, &input.marks)),
+pub fn waits(random: &mut Random, heap: &[u32], top: u32, roots: &[u32], marks: &[u64]) -> Vec<Vec<u32>> {
+    match plain::check(heap, top, roots, marks) {
+        Ok(_) => waits_of(&plain::live_table(heap, top, marks)),
         Err(_) => vec![Vec::new(); random.below(5)],
     }
 }
@@ -134,14 +142,14 @@ fn several_blocks(random: &mut Random) -> Input {
 }
 
 /// The live or the offset table is one entry too long or too short, or both are.
-fn change_a_length(random: &mut Random, collection: &mut Collection) {
+pub fn change_a_length(random: &mut Random, live: &mut Vec<u64>, offsets: &mut Vec<u32>) {
     let which = random.below(3);
     let longer = random.percent(50);
     if which != 0 {
-        change_by_one(&mut collection.live, longer);
+        change_by_one(live, longer);
     }
     if which != 1 {
-        change_by_one(&mut collection.offsets, longer);
+        change_by_one(offsets, longer);
     }
 }
 

@@ -221,7 +221,7 @@ fn steps(heap: &[u32]) -> Vec<usize> {
 }
 
 /// Headers of short objects and references to low places are often the same words.
-fn wild_word(random: &mut Random) -> u32 {
+pub fn wild_word(random: &mut Random) -> u32 {
     match random.below(10) {
         0..=2 => 0,
         3..=6 => random.pick(&[1, 4, 5, 8, 9, 12, 13]),

@@ -58,7 +58,7 @@ pub fn ascending(waits: &Waits) -> Vec<u32> {
 }
 
 /// A random order that keeps every dependence: each time one of the steps that are ready.
-fn kept(random: &mut Random, waits: &Waits) -> Vec<u32> {
+pub fn kept(random: &mut Random, waits: &Waits) -> Vec<u32> {
     let mut order = Vec::new();
     let mut is_done = vec![false; waits.len()];
     while order.len() < waits.len() {

@@ -1,5 +1,5 @@
-use mathlib.Core.Path.{_≡_, refl, sym, _∙_}
-use mathlib.Core.Bool.{true, false}
+use mathlib.Core.Path.{_≡_, sym, _∙_}
+use mathlib.Core.Bool.{true}
 use borrow.Author.Tests.{lt-ltb, le-ltb, not-true, not-false}
 use denote.Ref.{now}
 use Rattle.meaning.specs.Calls.{fits, admit}
@@ -20,60 +20,60 @@ use Rattle.store.proofs.told.Reads as told-reads
 ok : (c : tie.Else1) → let a = c .before .before .before .before .args in fits (viewOf (memOf (now (a .heap)) (now (a .roots)) (a .store))) ≡ true
 ok c = sym (c .before .fits2 .ensures) ∙ not-false (c .before .fits2 .result) (c .if1 .left)
 
--- src/fields.rt:133:9
+-- src/fields.rt:141:9
 fits-requires : tie.Need-fits-requires
 fits-requires c κs = search needs
 
--- src/fields.rt:134:9
+-- src/fields.rt:142:9
 refused-requires : tie.Need-refused-requires
 refused-requires c κs = search needs
 
--- src/fields.rt:134:9
+-- src/fields.rt:142:9
 returns : tie.Need-returns
 unfolding answered admit
 returns c = leaves-refused (rw (← c .before .before .fits2 .ensures, not-true (c .before .before .fits2 .result) (c .before .if1 .taken))) (c .refused .ensures)
 
--- src/fields.rt:137:9
+-- src/fields.rt:145:9
 refused-requires-2 : tie.Need-refused-requires-2
 refused-requires-2 c κs = search needs
 
--- src/fields.rt:137:9
+-- src/fields.rt:145:9
 returns-2 : tie.Need-returns-2
 unfolding answered admit
 returns-2 c = leaves-refused (rw (ok (c .before .before), le-ltb _ _ (c .before .if2 .taken))) (c .refused2 .ensures)
 
--- src/fields.rt:139:37
+-- src/fields.rt:147:37
 mul-see : tie.Need-mul-see
 mul-see c = search needs
 
--- src/fields.rt:139:37
+-- src/fields.rt:147:37
 shared-slice-read-see : tie.Need-shared-slice-read-see
 shared-slice-read-see c = search needs
 
--- src/fields.rt:139:9
+-- src/fields.rt:147:9
 see-requires : tie.Need-see-requires
 see-requires c κs =
     let b = c .before .before in
     let a = b .before .before .before .before .args in
     fits-top (memOf (now (a .heap)) (now (a .roots)) (a .store)) (ok b) .0
 
--- src/fields.rt:141:24
+-- src/fields.rt:149:24
 enum-told : tie.Need-enum-told
 enum-told c = search needs
 
--- src/fields.rt:141:24
+-- src/fields.rt:149:24
 refused-requires-3 : tie.Need-refused-requires-3
 refused-requires-3 c κs = search needs
 
--- src/fields.rt:142:26
+-- src/fields.rt:150:26
 asked-requires : tie.Need-asked-requires
 asked-requires c κs = search needs
 
--- src/fields.rt:142:14
+-- src/fields.rt:150:14
 told-requires : tie.Need-told-requires
 told-requires c κs = search needs
 
--- src/fields.rt:129:1
+-- src/fields.rt:137:1
 returns-3 : tie.Need-returns-3
 unfolding answered admit shown
 returns-3 c =
@@ -81,7 +81,7 @@ returns-3 c =
     let b = k .before .before in
     leaves-refused (rw (ok (b .before), lt-ltb _ _ (b .if2 .left), ← k .see .ensures, c .before .enum-told .given .1)) (c .refused3 .ensures)
 
--- src/fields.rt:129:1
+-- src/fields.rt:137:1
 returns-4 : tie.Need-returns-4
 unfolding shown
 returns-4 c =

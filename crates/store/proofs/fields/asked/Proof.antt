@@ -11,39 +11,39 @@ use Rattle.store.proofs.fields.asked.Tie as tie
 use Rattle.store.proofs.fields.asked.Reads as reads
 use Rattle.store.proofs.fields.asked.Lts as lts
 
--- src/fields.rt:116:22
+-- src/fields.rt:124:22
 enum-known-seen : tie.Need-enum-known-seen
 enum-known-seen c = search needs
 
--- src/fields.rt:117:24
+-- src/fields.rt:125:24
 enum-told : tie.Need-enum-told
 enum-told c = search needs
 
--- src/fields.rt:118:24
+-- src/fields.rt:126:24
 enum-told-2 : tie.Need-enum-told-2
 enum-told-2 c = search needs
 
--- src/fields.rt:119:25
+-- src/fields.rt:127:25
 enum-known-seen-2 : tie.Need-enum-known-seen-2
 enum-known-seen-2 c = search needs
 
--- src/fields.rt:121:17
+-- src/fields.rt:129:17
 returns : tie.Need-returns
 returns c = rw (c .before .before .seen2 .given .1, eq-eqb _ _ (c .if1 .taken))
 
--- src/fields.rt:112:1
+-- src/fields.rt:120:1
 returns-2 : tie.Need-returns-2
 returns-2 c = rw (c .before .seen .given .1) (ap (λ (z : ℤ). gives (integer z)) (toZ-ofZ w32 (c .before .seen .given .0 .0) (record { sfits = c .known-told .given .0 .1 })))
 
--- src/fields.rt:112:1
+-- src/fields.rt:120:1
 returns-3 : tie.Need-returns-3
 returns-3 c = rw (c .enum-told .given .1)
 
--- src/fields.rt:112:1
+-- src/fields.rt:120:1
 returns-4 : tie.Need-returns-4
 returns-4 c = rw (c .enum-told2 .given .1)
 
--- src/fields.rt:112:1
+-- src/fields.rt:120:1
 returns-5 : tie.Need-returns-5
 returns-5 c = rw (c .before .before .seen2 .given .1, ne-eqb _ _ (c .if1 .left))
 

@@ -1,9 +1,9 @@
-use mathlib.Core.Path.{_≡_, refl, sym, _∙_}
-use mathlib.Core.Bool.{true, false}
+use mathlib.Core.Path.{_≡_, sym, _∙_}
+use mathlib.Core.Bool.{true}
 use borrow.Author.Tests.{lt-ltb, le-ltb, not-true, not-false}
 use denote.Ref.{now}
-use Rattle.meaning.specs.Calls.{fits, admit}
-use Rattle.meaning.specs.Store.{viewOf, answered, shown}
+use Rattle.meaning.specs.Calls.{fits}
+use Rattle.meaning.specs.Store.{viewOf, shown}
 use Rattle.store.specs.Contract.{memOf, finding}
 use Rattle.store.proofs.CallsLeave.{fits-top}
 use borrow.Author.Needs.{needs}
@@ -18,50 +18,50 @@ use Rattle.store.proofs.fits.Reads as fits-reads
 ok : (c : tie.Else1) → let a = c .before .before .before .before .args in fits (viewOf (memOf (now (a .heap)) (now (a .roots)) (a .store))) ≡ true
 ok c = sym (c .before .fits2 .ensures) ∙ not-false (c .before .fits2 .result) (c .if1 .left)
 
--- src/fields.rt:98:9
+-- src/fields.rt:106:9
 fits-requires : tie.Need-fits-requires
 fits-requires c κs = search needs
 
--- src/fields.rt:99:9
+-- src/fields.rt:107:9
 returns : tie.Need-returns
 unfolding finding
-returns c = rw (← c .before .fits2 .ensures, not-true (c .before .fits2 .result) (c .if1 .taken))
+returns c = record { found-is = rw (← c .before .fits2 .ensures, not-true (c .before .fits2 .result) (c .if1 .taken)) }
 
--- src/fields.rt:102:9
+-- src/fields.rt:110:9
 returns-2 : tie.Need-returns-2
 unfolding finding
-returns-2 c = rw (ok (c .before), le-ltb _ _ (c .if2 .taken))
+returns-2 c = record { found-is = rw (ok (c .before), le-ltb _ _ (c .if2 .taken)) }
 
--- src/fields.rt:105:9
+-- src/fields.rt:113:9
 returns-3 : tie.Need-returns-3
 unfolding finding
-returns-3 c = rw (ok (c .before .before), lt-ltb _ _ (c .before .if2 .left), le-ltb _ _ (c .if3 .taken))
+returns-3 c = record { found-is = rw (ok (c .before .before), lt-ltb _ _ (c .before .if2 .left), le-ltb _ _ (c .if3 .taken)) }
 
--- src/fields.rt:107:37
+-- src/fields.rt:115:37
 mul-see : tie.Need-mul-see
 mul-see c = search needs
 
--- src/fields.rt:107:37
+-- src/fields.rt:115:37
 shared-slice-read-see : tie.Need-shared-slice-read-see
 shared-slice-read-see c = search needs
 
--- src/fields.rt:107:9
+-- src/fields.rt:115:9
 see-requires : tie.Need-see-requires
 see-requires c κs =
     let b = c .before .before .before in
     let a = b .before .before .before .before .args in
     fits-top (memOf (now (a .heap)) (now (a .roots)) (a .store)) (ok b) .0
 
--- src/fields.rt:108:5
+-- src/fields.rt:116:5
 locate-requires : tie.Need-locate-requires
 locate-requires c κs = search needs
 
--- src/fields.rt:87:1
+-- src/fields.rt:95:1
 returns-4 : tie.Need-returns-4
 unfolding finding shown
 returns-4 c =
     let b = c .before .before .before in
-    rw (ok (b .before .before), lt-ltb _ _ (b .before .if2 .left), lt-ltb _ _ (b .if3 .left), ← c .before .see .ensures) (c .locate .ensures)
+    record { found-is = rw (ok (b .before .before), lt-ltb _ _ (b .before .if2 .left), lt-ltb _ _ (b .if3 .left), ← c .before .see .ensures) (c .locate .ensures) }
 
 pub find-spec : {M : Type 1} → statement M
 find-spec =

@@ -1,16 +1,10 @@
-use Prim.Native.Nat.{ℕ, suc, _+_, _<_}
-use mathlib.Core.Path.{_≡_, refl, ap, sym, _∙_}
+use Prim.Native.Nat.{ℕ}
+use mathlib.Core.Path.{refl}
 use native.Mathlib.Omega.{arith}
-use native.Mathlib.Numerals.{add-one}
-use lib.ListN.{length, getD}
-use denote.Ref.{now}
-use Rattle.meaning.specs.Answers.{gives}
-use Rattle.meaning.specs.Calls.{word, admit}
-use Rattle.meaning.specs.Store.{answered}
-use Rattle.store.specs.declared.Said.the-variants.{Word}
-use Rattle.store.specs.Contract.{memOf, foundOf, finding}
-use Rattle.store.proofs.CallsLeave.{leaves-refused, leaves-told}
-use Rattle.store.proofs.Finding.{find-in, finding-once}
+use lib.ListN.{getD}
+use Rattle.meaning.specs.Calls.{readRaw, word, admit}
+use Rattle.meaning.specs.Store.{Mem, onlySays}
+use Rattle.store.proofs.Finding.{found-at, leaves-unfound, leaves-found, finding-once}
 use borrow.Author.Needs.{needs}
 use Rattle.store.proofs.fields.read_raw.Statement.{statement}
 use Rattle.store.proofs.fields.read_raw.Tie as tie
@@ -20,72 +14,46 @@ use Rattle.store.proofs.fields.find.Reads as find-reads
 use Rattle.store.proofs.refused.Reads as refused-reads
 use Rattle.store.proofs.told.Reads as told-reads
 
--- the object is found, and what that tells
-module _ (c : tie.After-found2) where
-  abbrev at : ℕ
-  at = c .found2 .given .0 .0
-
-  is-found : let a = c .before .before .before .before .before .args in finding (memOf (now (a .heap)) (now (a .roots)) (a .store)) 1 (a .object) (a .field) (a .object) ≡ gives at
-  is-found = sym (c .before .before .find .ensures) ∙ ap foundOf (c .found2 .given .1)
-
-  inside : let a = c .before .before .before .before .before .args in (suc at + a .field < length (now (a .heap))) × (a .object < length (now (a .roots)))
-  inside = let a = c .before .before .before .before .before .args in find-in (memOf (now (a .heap)) (now (a .roots)) (a .store)) 1 (a .object) (a .field) (a .object) at is-found
-
--- src/fields.rt:201:9
+-- src/fields.rt:203:9
 find-requires : tie.Need-find-requires
 find-requires c κs = search needs
 
--- src/fields.rt:203:19
+-- src/fields.rt:205:19
 enum-known-found : tie.Need-enum-known-found
 enum-known-found c = search needs
 
--- src/fields.rt:203:37
+-- src/fields.rt:205:37
 refused-requires : tie.Need-refused-requires
 refused-requires c κs = search needs
 
--- src/fields.rt:204:19
+-- src/fields.rt:206:19
 enum-known-found-2 : tie.Need-enum-known-found-2
 enum-known-found-2 c = search needs
 
--- src/fields.rt:205:41
-cast-t11 : tie.Need-cast-t11
-cast-t11 c = search needs
+-- src/fields.rt:206:51
+mul-t11 : tie.Need-mul-t11
+mul-t11 c = let x = found-at (c .before .before .before .find .ensures) (c .before .found2 .given .1) in omega arith
 
--- src/fields.rt:205:41
-add-t12 : tie.Need-add-t12
-add-t12 c = search needs
+-- src/fields.rt:206:51
+shared-slice-read-t13 : tie.Need-shared-slice-read-t13
+shared-slice-read-t13 c = let x = found-at (c .before .before .before .before .find .ensures) (c .before .before .found2 .given .1) in omega arith
 
--- src/fields.rt:205:41
-add-t14 : tie.Need-add-t14
-add-t14 c = search needs
-
--- src/fields.rt:205:36
-mul-t15 : tie.Need-mul-t15
-mul-t15 c = search needs
-
--- src/fields.rt:205:36
-shared-slice-read-t17 : tie.Need-shared-slice-read-t17
-shared-slice-read-t17 c = let x = inside (c .before .before) in omega arith
-
--- src/fields.rt:205:13
+-- src/fields.rt:206:28
 told-requires : tie.Need-told-requires
 told-requires c κs = search needs
 
--- src/fields.rt:191:1
+-- src/fields.rt:199:1
 returns : tie.Need-returns
-unfolding answered admit
-returns c =
-    let k = c .before .before in
-    let a = k .before .before .before .before .before .args in
-    leaves-refused (rw (finding-once (memOf (now (a .heap)) (now (a .roots)) (a .store)) 1 (a .object) (a .field) ∙ sym (k .before .before .find .ensures) ∙ ap foundOf (k .found .given .1))) (c .refused .ensures)
+unfolding admit
+returns c = leaves-unfound (readRaw _ _) (finding-once _ _ _ _) (c .before .before .before .before .find .ensures) (c .before .before .found .given .1) (c .refused .ensures)
 
--- src/fields.rt:191:1
+-- src/fields.rt:199:1
 returns-2 : tie.Need-returns-2
-unfolding answered admit
+unfolding admit
 returns-2 c =
     let k = c .before .before .before in
     let a = k .before .before .before .before .before .args in
-    leaves-told (a .store) (Word _) (rw (finding-once (memOf (now (a .heap)) (now (a .roots)) (a .store)) 1 (a .object) (a .field) ∙ is-found k)) (c .told .ensures) (ap (λ (n : ℕ). gives (word (getD (now (a .heap)) (n + a .field) 0))) (add-one (at k))) refl
+    leaves-found (a .store) (readRaw _ _) (λ (m : Mem) (w : ℕ). onlySays m (word (getD (m .heap) w 0))) (finding-once _ _ _ _) (k .before .before .find .ensures) (k .found2 .given .1) (λ p. refl) (c .told .ensures) refl refl
 
 pub read-raw-spec : {M : Type 1} → statement M
 read-raw-spec =
@@ -95,11 +63,8 @@ read-raw-spec =
     enum-known-found
     refused-requires
     enum-known-found-2
-    cast-t11
-    add-t12
-    add-t14
-    mul-t15
-    shared-slice-read-t17
+    mul-t11
+    shared-slice-read-t13
     told-requires
     returns
     returns-2)

@@ -1,4 +1,4 @@
-use mathlib.Core.Path.{_≡_, refl, ap, sym, _∙_}
+use mathlib.Core.Path.{ap, sym, _∙_}
 use Rattle.meaning.specs.Values.{valueOf}
 use lib.IntN.{ℤ}
 use mir.Syntax.{w32}
@@ -15,47 +15,47 @@ use Rattle.words.proofs.Place.number.Reads as number-reads
 use Rattle.words.proofs.Word.from_bits.Reads as from-bits-reads
 use Rattle.words.proofs.Word.shown.Reads as shown-reads
 
--- src/fields.rt:50:17
+-- src/fields.rt:52:17
 from-bits-requires : tie.Need-from-bits-requires
 from-bits-requires c κs = search needs
 
--- src/fields.rt:50:9
+-- src/fields.rt:52:9
 shown-requires : tie.Need-shown-requires
 shown-requires c κs = search needs
 
--- src/fields.rt:52:20
+-- src/fields.rt:54:20
 enum-known-shown : tie.Need-enum-known-shown
 enum-known-shown c = search needs
 
--- src/fields.rt:53:23
+-- src/fields.rt:55:23
 enum-told : tie.Need-enum-told
 enum-told c = search needs
 
--- src/fields.rt:54:20
+-- src/fields.rt:56:20
 enum-known-shown-2 : tie.Need-enum-known-shown-2
 enum-known-shown-2 c = search needs
 
--- src/fields.rt:54:52
+-- src/fields.rt:56:52
 number-requires : tie.Need-number-requires
 number-requires c κs = search needs
 
--- src/fields.rt:54:30
+-- src/fields.rt:56:30
 see-object-requires : tie.Need-see-object-requires
 see-object-requires c κs = search needs
 
--- src/fields.rt:46:1
+-- src/fields.rt:48:1
 returns : tie.Need-returns
 returns c =
     let k = c .before .before .before in
     rw (← sym (ap shownValue (c .before .shown2 .given .1)) ∙ k .shown .ensures ∙ ap valueOf (k .before .from-bits .ensures)) (ap (λ (z : ℤ). plain (integer z)) (toZ-ofZ w32 (c .before .shown2 .given .0 .0) (record { sfits = c .known-told .given .0 .1 })))
 
--- src/fields.rt:46:1
+-- src/fields.rt:48:1
 returns-2 : tie.Need-returns-2
 returns-2 c =
     let k = c .before .before in
     rw (← sym (ap shownValue (c .enum-told .given .1)) ∙ k .shown .ensures ∙ ap valueOf (k .before .from-bits .ensures))
 
--- src/fields.rt:46:1
+-- src/fields.rt:48:1
 returns-3 : tie.Need-returns-3
 returns-3 c =
     let s = c .before .before .before in

@@ -1,4 +1,4 @@
-use Prim.Native.Nat.{ℕ, suc, _+_, _/_}
+use Prim.Native.Nat.{suc, _+_, _/_}
 use native.Mathlib.Omega.{arith}
 use borrow.Author.Tests.{lt-ltb, le-ltb, le-leb, lt-leb, not-true, not-false}
 use lib.ListN.{getD}
@@ -10,42 +10,42 @@ use Rattle.store.proofs.fields.see_object.Tie as tie
 use Rattle.store.proofs.fields.see_object.Reads as reads
 use Rattle.store.proofs.fields.see_object.Lts as lts
 
--- src/fields.rt:32:9
+-- src/fields.rt:34:9
 returns : tie.Need-returns
 returns c = rw (le-ltb _ _ (c .if1 .taken))
 
--- src/fields.rt:34:18
+-- src/fields.rt:36:18
 mul-header : tie.Need-mul-header
 mul-header c = search needs
 
--- src/fields.rt:34:18
+-- src/fields.rt:36:18
 shared-slice-read-header : tie.Need-shared-slice-read-header
 shared-slice-read-header c = search needs
 
--- src/fields.rt:35:32
+-- src/fields.rt:37:32
 add-legal : tie.Need-add-legal
 add-legal c = search needs
 
--- src/fields.rt:35:27
+-- src/fields.rt:37:27
 mul-legal : tie.Need-mul-legal
 mul-legal c = search needs
 
--- src/fields.rt:37:9
+-- src/fields.rt:39:9
 returns-2 : tie.Need-returns-2
 returns-2 c = let a = c .before .before .before .args in rw (lt-ltb _ _ (c .before .before .if1 .left), not-true (legalHeader (getD (now (a .heap)) (a .place) 0)) (c .if2 .taken))
 
--- src/fields.rt:39:8
+-- src/fields.rt:41:8
 sub-if3 : tie.Need-sub-if3
 sub-if3 c = search needs
 
--- src/fields.rt:40:9
+-- src/fields.rt:42:9
 returns-3 : tie.Need-returns-3
 returns-3 c =
     let b = c .before .before .before in
     let a = b .before .args in
     rw (lt-ltb _ _ (b .if1 .left), not-false (legalHeader (getD (now (a .heap)) (a .place) 0)) (c .before .if2 .left), lt-leb (suc (a .place) + getD (now (a .heap)) (a .place) 0 / 4) (a .top) (omega arith))
 
--- src/fields.rt:27:1
+-- src/fields.rt:29:1
 returns-4 : tie.Need-returns-4
 returns-4 c =
     let b = c .before .before .before in

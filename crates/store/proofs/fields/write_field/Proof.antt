@@ -1,16 +1,11 @@
-use Prim.Native.Nat.{ℕ, suc, _+_, _<_}
-use mathlib.Core.Path.{_≡_, refl, ap, sym, _∙_}
+use Prim.Native.Nat.{ℕ}
+use mathlib.Core.Path.{refl}
 use native.Mathlib.Omega.{arith}
-use native.Mathlib.Numerals.{add-one}
-use lib.ListN.{length}
-use denote.Ref.{now}
-use Rattle.meaning.specs.Answers.{gives}
-use Rattle.meaning.specs.Calls.{admit}
-use Rattle.meaning.specs.Store.{answered}
-use Rattle.store.specs.declared.Said.the-variants.{Done}
-use Rattle.store.specs.Contract.{memOf, foundOf, finding}
-use Rattle.store.proofs.CallsLeave.{leaves-refused, leaves-told}
-use Rattle.store.proofs.Finding.{find-in}
+use lib.ListN.{getD}
+use Rattle.meaning.specs.Calls.{writeField, admit}
+use Rattle.meaning.specs.Store.{Mem, withWord}
+use Rattle.store.specs.Contract.{finding}
+use Rattle.store.proofs.Finding.{found-at, leaves-unfound, leaves-found}
 use borrow.Author.Needs.{needs}
 use Rattle.store.proofs.fields.write_field.Statement.{statement}
 use Rattle.store.proofs.fields.write_field.Tie as tie
@@ -20,88 +15,62 @@ use Rattle.store.proofs.fields.find.Reads as find-reads
 use Rattle.store.proofs.refused.Reads as refused-reads
 use Rattle.store.proofs.told.Reads as told-reads
 
--- the object is found, and what that tells
-module _ (c : tie.After-found2) where
-  abbrev at : ℕ
-  at = c .found2 .given .0 .0
-
-  is-found : let a = c .before .before .before .before .before .before .args in finding (memOf (now (a .heap)) (now (a .roots)) (a .store)) 0 (a .object) (a .field) (a .source) ≡ gives at
-  is-found = sym (c .before .before .find .ensures) ∙ ap foundOf (c .found2 .given .1)
-
-  inside : let a = c .before .before .before .before .before .before .args in (suc at + a .field < length (now (a .heap))) × (a .source < length (now (a .roots)))
-  inside = let a = c .before .before .before .before .before .before .args in find-in (memOf (now (a .heap)) (now (a .roots)) (a .store)) 0 (a .object) (a .field) (a .source) at is-found
-
--- src/fields.rt:180:9
+-- src/fields.rt:188:9
 find-requires : tie.Need-find-requires
 find-requires c κs = search needs
 
--- src/fields.rt:182:19
+-- src/fields.rt:190:19
 enum-known-found : tie.Need-enum-known-found
 enum-known-found c = search needs
 
--- src/fields.rt:182:37
+-- src/fields.rt:190:37
 refused-requires : tie.Need-refused-requires
 refused-requires c κs = search needs
 
--- src/fields.rt:183:19
+-- src/fields.rt:191:19
 enum-known-found-2 : tie.Need-enum-known-found-2
 enum-known-found-2 c = search needs
 
--- src/fields.rt:184:57
+-- src/fields.rt:192:24
 mul-heap : tie.Need-mul-heap
 mul-heap c = search needs
 
--- src/fields.rt:184:57
+-- src/fields.rt:192:24
 shared-slice-read-heap : tie.Need-shared-slice-read-heap
-shared-slice-read-heap c = let x = inside (c .before .before) in omega arith
+shared-slice-read-heap c = let x = found-at (c .before .before .before .before .find .ensures) (c .before .before .found2 .given .1) in omega arith
 
--- src/fields.rt:184:18
-cast-heap : tie.Need-cast-heap
-cast-heap c = search needs
-
--- src/fields.rt:184:18
-add-heap : tie.Need-add-heap
-add-heap c = search needs
-
--- src/fields.rt:184:18
-add-heap-2 : tie.Need-add-heap-2
-add-heap-2 c = search needs
-
--- src/fields.rt:184:13
+-- src/fields.rt:192:13
 mul-heap-2 : tie.Need-mul-heap-2
-mul-heap-2 c = search needs
+mul-heap-2 c = let x = found-at (c .before .before .before .before .find .ensures) (c .before .before .found2 .given .1) in omega arith
 
--- src/fields.rt:184:13
+-- src/fields.rt:192:13
 slice-write-heap : tie.Need-slice-write-heap
-slice-write-heap c = let x = inside (c .before .before) in omega arith
+slice-write-heap c = let x = found-at (c .before .before .before .before .find .ensures) (c .before .before .found2 .given .1) in omega arith
 
--- src/fields.rt:185:13
+-- src/fields.rt:193:13
 told-requires : tie.Need-told-requires
 told-requires c κs = search needs
 
--- src/fields.rt:169:1
+-- src/fields.rt:177:1
 same-length : tie.Need-same-length
 same-length c = search needs
 
--- src/fields.rt:169:1
+-- src/fields.rt:177:1
 returns : tie.Need-returns
-unfolding answered admit finding
-returns c =
-    let k = c .before .before in
-    let a = k .before .before .before .before .before .before .args in
-    leaves-refused (rw (sym (k .before .before .find .ensures) ∙ ap foundOf (k .found .given .1))) (c .refused .ensures)
+unfolding admit finding
+returns c = leaves-unfound (writeField _ _ _) refl (c .before .before .before .before .find .ensures) (c .before .before .found .given .1) (c .refused .ensures)
 
--- src/fields.rt:169:1
+-- src/fields.rt:177:1
 same-length-2 : tie.Need-same-length-2
 same-length-2 c = search needs
 
--- src/fields.rt:169:1
+-- src/fields.rt:177:1
 returns-2 : tie.Need-returns-2
-unfolding answered admit finding
+unfolding admit finding
 returns-2 c =
     let k = c .before .before .before in
     let a = k .before .before .before .before .before .before .args in
-    rw (add-one (at k)) (leaves-told (a .store) Done (rw (is-found k)) (c .told .ensures) refl refl)
+    leaves-found (a .store) (writeField _ _ _) (λ (m : Mem) (w : ℕ). withWord m w (getD (m .slots) (a .source) 0)) refl (k .before .before .find .ensures) (k .found2 .given .1) (λ p. refl) (c .told .ensures) refl refl
 
 pub write-field-spec : {M : Type 1} → statement M
 write-field-spec =
@@ -113,9 +82,6 @@ write-field-spec =
     enum-known-found-2
     mul-heap
     shared-slice-read-heap
-    cast-heap
-    add-heap
-    add-heap-2
     mul-heap-2
     slice-write-heap
     told-requires

@@ -1,5 +1,5 @@
 use mathlib.Core.Path.{_≡_, refl, ap, sym, _∙_}
-use mathlib.Core.Bool.{true, false}
+use mathlib.Core.Bool.{true}
 use borrow.Author.Tests.{lt-ltb, le-ltb, not-true, not-false}
 use lib.IntN.{ℤ}
 use mir.Syntax.{w32}

@@ -1,5 +1,5 @@
 use mathlib.Core.Path.{_≡_, refl, sym, _∙_}
-use mathlib.Core.Bool.{true, false}
+use mathlib.Core.Bool.{true}
 use borrow.Author.Tests.{lt-ltb, le-ltb, not-true, not-false}
 use denote.Ref.{now}
 use Rattle.meaning.specs.Calls.{fits, admit}
@@ -50,19 +50,19 @@ returns-3 : tie.Need-returns-3
 unfolding answered admit
 returns-3 c = leaves-refused (rw (ok (c .before .before .before), lt-ltb _ _ (c .before .before .if2 .left), le-ltb _ _ (c .before .if3 .taken))) (c .refused3 .ensures)
 
--- src/slots.rt:80:28
+-- src/slots.rt:82:20
 mul-t9 : tie.Need-mul-t9
 mul-t9 c = search needs
 
--- src/slots.rt:80:28
+-- src/slots.rt:82:20
 shared-slice-read-t11 : tie.Need-shared-slice-read-t11
 shared-slice-read-t11 c = search needs
 
--- src/slots.rt:80:53
+-- src/slots.rt:82:45
 mul-t13 : tie.Need-mul-t13
 mul-t13 c = search needs
 
--- src/slots.rt:80:53
+-- src/slots.rt:82:45
 shared-slice-read-t15 : tie.Need-shared-slice-read-t15
 shared-slice-read-t15 c = search needs
 

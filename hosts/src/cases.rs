@@ -4,6 +4,7 @@ mod calls;
 mod collections;
 mod digest;
 pub mod edges;
+pub mod images;
 #[cfg(test)]
 mod tests;
 

@@ -2,5 +2,6 @@
 
 pub mod cases;
 mod examples;
+pub mod listing;
 pub mod plain;
 pub mod random;

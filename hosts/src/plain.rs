@@ -3,6 +3,7 @@
 
 mod calls;
 mod collect;
+pub mod image;
 mod list;
 mod lookup;
 mod store;

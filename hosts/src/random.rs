@@ -4,6 +4,7 @@ pub mod calls;
 pub mod collections;
 pub mod damage;
 pub mod heaps;
+pub mod images;
 pub mod orders;
 pub mod tables;
 

@@ -33,5 +33,6 @@ pub mod ListKept
 pub mod CollectsSame
 pub mod DemandThree
 pub mod CallCasesHold
+pub mod PrintedCasesHold
 pub mod ListAnswers
 pub mod ListRoom

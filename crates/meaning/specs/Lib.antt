@@ -15,4 +15,7 @@ pub mod SimpleList
 pub mod ListCollect
 pub mod Sequences
 pub mod CallCases
+pub mod Text
+pub mod Image
+pub mod PrintedCases
 pub mod Cases

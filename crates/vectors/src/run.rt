@@ -16,6 +16,7 @@ pub fn run(case: &[u8]) {
         2 => lookups(case),
         3 => collect(case),
         4 => calls::calls(case),
+        5 => image(case),
         _ => say::skipped(),
     }
 }
@@ -169,4 +170,14 @@ fn collect(case: &[u8]) {
     } else {
         say::skipped();
     }
+}
+
+// Kind 5: an image, and all that the program compact prints for it. Its length in bytes; then these, filled up to a whole word.
+fn image(case: &[u8]) {
+    let bytes = case::word(case, 1) as usize;
+    if case.len() != 8 + 4 * ((bytes + 3) / 4) {
+        say::skipped();
+        return;
+    }
+    say::report(&case[8..8 + bytes]);
 }

@@ -146,3 +146,11 @@ pub fn said(said: Said) {
     }
     text(b"\n");
 }
+
+// What the program compact prints for an image.
+pub fn report(image: &[u8]) {
+    let mut marks = [0u64; 128];
+    let mut out = [0u8; report::MOST_TEXT];
+    let n = report::answer(image, &mut marks, &mut out);
+    text(&out[..n]);
+}

@@ -38,9 +38,14 @@ pub fn any_input(random: &mut Random) -> Input {
         _ => 3,
     };
     for _ in 0..strikes {
-        random.pick(&SORTS)(random, &mut input);
+        strike(random, &mut input);
     }
     input
+}
+
+/// Damage of one sort.
+pub fn strike(random: &mut Random, input: &mut Input) {
+    random.pick(&SORTS)(random, input);
 }
 
 /// A header's place; only an empty heap has none.

@@ -5,6 +5,12 @@
  * An accepted call puts its values into out; a refused call leaves out as found.
  * A table is handed in as a pointer to its first entry and the number of its entries.
  *
+ * Memory. All of it is the caller's, before, during and after a call: the library allocates nothing, keeps no
+ * pointer and has no variables. A pointer is aligned for its type and never null, also where the number of
+ * entries is 0. What is handed to one call does not overlap, out and record included. A call touches nothing
+ * else, changes only what its description names, and always returns, whatever the memory holds. Calls on separate
+ * memory may run at the same time.
+ *
  * Value words. An even word is a small integer. 4294967295 is nil. Any other odd word w is a reference
  * to place (w - 1) / 2, a place being a word's number in the heap.
  *
@@ -112,6 +118,153 @@ uint64_t hasurimba_new_to_old(
     const uint64_t *live, size_t live_len,
     const uint32_t *offsets, size_t offsets_len,
     uint32_t place,
+    uint64_t out[4]);
+
+/*
+ * The store calls. A store is a record of eight words, a heap and root slots; the caller keeps all three and hands
+ * them to every call as the last one left them.
+ *
+ *   record[0]  the top: heap words in use
+ *   record[1]  calls answered without refusal; it wraps from 2^64 - 1 to 0
+ *   record[2] to record[7]  not used: they stay as found
+ *
+ * A new store has a record of zeros and 4294967295 (nil) in every root; its heap may hold anything. Slot s is
+ * roots[s]. Values go from slot to slot and between slots and fields; a reference never leaves the store as a number,
+ * and a raw word never goes through a slot.
+ *
+ * The refusals. Each call names those that it has, in the order in which it tries them:
+ *
+ *   1   heap over 8192 words, record[0] above heap length (one of more than 32 bits is), or over 64 roots; at 0
+ *   7   no such slot; at that slot
+ *   13  the slot asked about or said to hold an object holds a reference at or above the top, to an illegal header,
+ *       or to an object past the top; at that slot
+ *   8   the slot does not hold the kind of object wanted; at that slot
+ *   9   field or raw number not below the object's count; at that field
+ *   10  integer outside -1073741824 to 1073741823; at 0
+ *   12  k above 1023; at 0
+ *   11  no room: top + 1 + k above heap length; at 0
+ *
+ * A refused call leaves record, heap, roots and out as found. An accepted one adds 1 to record[1], and changes
+ * nothing but that and what is named below.
+ */
+
+/* Puts an integer into a slot. Refused by 1, 7, 10. Changes roots[slot]. */
+uint64_t hasurimba_put_integer(
+    uint64_t record[8],
+    uint32_t *heap, size_t heap_len,
+    uint32_t *roots, size_t roots_len,
+    uint32_t slot,
+    int32_t value);
+
+/* Puts nil into a slot. Refused by 1, 7. Changes roots[slot]. */
+uint64_t hasurimba_put_nil(
+    uint64_t record[8],
+    uint32_t *heap, size_t heap_len,
+    uint32_t *roots, size_t roots_len,
+    uint32_t slot);
+
+/* Copies the word of slot source to slot target, and does not judge it. Refused by 1, 7 of source, 7 of target.
+ * Changes roots[target]. */
+uint64_t hasurimba_copy(
+    uint64_t record[8],
+    uint32_t *heap, size_t heap_len,
+    uint32_t *roots, size_t roots_len,
+    uint32_t source,
+    uint32_t target);
+
+/* Makes a record of k nils at the top, and puts a reference to it into a slot. Refused by 1, 7, 12, 11. Changes
+ * roots[slot], the 1 + k heap words from the old top on, and record[0], which grows by 1 + k. */
+uint64_t hasurimba_new_record(
+    uint64_t record[8],
+    uint32_t *heap, size_t heap_len,
+    uint32_t *roots, size_t roots_len,
+    uint32_t slot,
+    uint32_t k);
+
+/* Makes a raw object of k zeros; else as hasurimba_new_record. */
+uint64_t hasurimba_new_raw(
+    uint64_t record[8],
+    uint32_t *heap, size_t heap_len,
+    uint32_t *roots, size_t roots_len,
+    uint32_t slot,
+    uint32_t k);
+
+/* Reads a field of the record that slot object holds, into slot target. Refused by 1, 7 of object, 7 of target, 13,
+ * 8, 9. Changes roots[target]. */
+uint64_t hasurimba_read_field(
+    uint64_t record[8],
+    uint32_t *heap, size_t heap_len,
+    uint32_t *roots, size_t roots_len,
+    uint32_t object,
+    uint32_t field,
+    uint32_t target);
+
+/* Writes the word of slot source to a field of the record that slot object holds. Refused by 1, 7 of object, 7 of
+ * source, 13, 8, 9. Changes that heap word. */
+uint64_t hasurimba_write_field(
+    uint64_t record[8],
+    uint32_t *heap, size_t heap_len,
+    uint32_t *roots, size_t roots_len,
+    uint32_t object,
+    uint32_t field,
+    uint32_t source);
+
+/* Reads a word of the raw object that slot object holds. Refused by 1, 7, 13, 8, 9. Accepted: out[0] is the word. */
+uint64_t hasurimba_read_raw(
+    uint64_t record[8],
+    uint32_t *heap, size_t heap_len,
+    uint32_t *roots, size_t roots_len,
+    uint32_t object,
+    uint32_t index,
+    uint64_t out[4]);
+
+/* Writes a word of the raw object that slot object holds. Refused by 1, 7, 13, 8, 9. Changes that heap word. */
+uint64_t hasurimba_write_raw(
+    uint64_t record[8],
+    uint32_t *heap, size_t heap_len,
+    uint32_t *roots, size_t roots_len,
+    uint32_t object,
+    uint32_t index,
+    uint32_t word);
+
+/*
+ * Asks what a slot holds. Refused by 1, 7, 13. Accepted:
+ *
+ *   out[0] is 0, an integer: out[1] is its value as an int64_t, so (int64_t)out[1] is below zero for one below zero
+ *   out[0] is 1, nil: out[1] stays as found
+ *   out[0] is 2, a record: out[1] is the number of its fields
+ *   out[0] is 3, a raw object: out[1] is the number of its words
+ */
+uint64_t hasurimba_ask(
+    uint64_t record[8],
+    uint32_t *heap, size_t heap_len,
+    uint32_t *roots, size_t roots_len,
+    uint32_t slot,
+    uint64_t out[4]);
+
+/* Asks whether two slots hold the same word, and does not judge it. Refused by 1, 7 of first, 7 of second. Accepted:
+ * out[0] is 1 if they do, else 0. */
+uint64_t hasurimba_same(
+    uint64_t record[8],
+    uint32_t *heap, size_t heap_len,
+    uint32_t *roots, size_t roots_len,
+    uint32_t first,
+    uint32_t second,
+    uint64_t out[4]);
+
+/*
+ * Collects the store's heap: hasurimba_collect with record[0] as the top, the same refusals 1 to 6, and the same
+ * values in out. Accepted: record[0] is the new top L, and record[1] has grown by 1. A refusal leaves the record as
+ * found too; only refusal 6 has filled in live and offsets.
+ */
+uint64_t hasurimba_store_collect(
+    uint64_t record[8],
+    uint32_t *heap, size_t heap_len,
+    uint32_t *roots, size_t roots_len,
+    uint64_t *marks, size_t marks_len,
+    const uint32_t *order, size_t order_len,
+    uint64_t *live, size_t live_len,
+    uint32_t *offsets, size_t offsets_len,
     uint64_t out[4]);
 
 #ifdef __cplusplus

@@ -1,2 +1,3 @@
 -- What C is handed back.
 pub mod Out
+pub mod Kept

@@ -1,15 +1,29 @@
 // The C interface. Every function answers 0 where accepted, else the refusal's number + 256 * the place reported; values go
 // to the four words `out`, which stay as found on a refusal. None has a `requires`: C cannot be asked for one.
+ghost use Prim.Native.Nat.{_+_, _*_};
+ghost use mathlib.Core.Path.{_≡_};
 ghost use Rattle.meaning.specs.Collect.{check, collect};
 ghost use Rattle.meaning.specs.Lookups.{oldToNew, newToOld};
 ghost use Rattle.compactor.specs.Collects.{collectedTotals};
 ghost use Rattle.objects.specs.Examined.{checkedCounts};
 ghost use Rattle.tables.specs.Paper.{lookupAnswer};
 ghost use Rattle.hasurimba.specs.Out.{Says, SaysCollected, countWords, foundWords, totalWords};
+
+pub mod calls;
+mod keeping;
+mod telling;
+
 use compactor::Collected;
 use objects::Checked;
 use tables::Lookup;
 use words::Place;
+
+// A refusal as C gets it.
+fn refusal(number: u32, place: u32) -> u64
+    ensures { λ r. ⌜ r ≡ number + 256 * place ⌝ }
+{
+    number as u64 + 256 * (place as u64)
+}
 
 // The check's answer as C gets it.
 fn say_checked(checked: Checked, out: &mut [u64; 4]) -> u64
@@ -21,7 +35,7 @@ fn say_checked(checked: Checked, out: &mut [u64; 4]) -> u64
             out[1] = objects as u64;
             0
         }
-        Checked::Refused(number, place) => number as u64 + 256 * (place as u64),
+        Checked::Refused(number, place) => refusal(number, place),
     }
 }
 
@@ -49,7 +63,7 @@ fn say_collected(collected: Collected, out: &mut [u64; 4]) -> u64
             out[2] = blocks as u64;
             0
         }
-        Collected::Refused(number, place) => number as u64 + 256 * (place as u64),
+        Collected::Refused(number, place) => refusal(number, place),
     }
 }
 

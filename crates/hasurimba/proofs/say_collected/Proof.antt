@@ -28,23 +28,14 @@ element-write-out-3 c = search needs
 enum-known-collected-2 : tie.Need-enum-known-collected-2
 enum-known-collected-2 c = search needs
 
-cast-result : tie.Need-cast-result
-cast-result c = search needs
-
-cast-result-2 : tie.Need-cast-result-2
-cast-result-2 c = search needs
-
-mul-result : tie.Need-mul-result
-mul-result c = search needs
-
-add-result : tie.Need-add-result
-add-result c = search needs
+refusal-requires : tie.Need-refusal-requires
+refusal-requires c κs = search needs
 
 returns : tie.Need-returns
 returns c = rw (c .before .collected .given .1) (record { number = refl; words = refl })
 
 returns-2 : tie.Need-returns-2
-returns-2 c = rw (c .before .collected2 .given .1) (record { number = refl; words = refl })
+returns-2 c = rw (c .before .before .collected2 .given .1) (record { number = c .refusal .ensures; words = refl })
 
 pub say-collected-spec : {M : Type 1} → statement M
 say-collected-spec =
@@ -58,9 +49,6 @@ say-collected-spec =
     cast-out-3
     element-write-out-3
     enum-known-collected-2
-    cast-result
-    cast-result-2
-    mul-result
-    add-result
+    refusal-requires
     returns
     returns-2)

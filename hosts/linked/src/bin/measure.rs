@@ -1,5 +1,5 @@
 //! Times the library's check and collection on full heaps, beside a walk that judges nothing and a plain
-//! compactor that checks nothing. Not a test.
+//! compactor that checks nothing, and the lookup of a new place in their tables. Not a test.
 
 use hosts::plain::{self, Counts};
 use hosts::random::collections::Collection;
@@ -7,7 +7,7 @@ use hosts::random::heaps::{good, Mix};
 use hosts::random::orders::{ascending, waits_of};
 use hosts::random::Random;
 use linked::compactor::compact;
-use linked::library;
+use linked::library::{self, Answer};
 use std::hint::black_box;
 use std::time::Instant;
 
@@ -43,6 +43,13 @@ fn main() {
         print_row(share, "median", rounds.each_ref().map(|times| times[ROUNDS / 2]));
         print_row(share, "minimum", rounds.each_ref().map(|times| times[0]));
     }
+    let tables = make_tables(&mut random, 50);
+    let times = time_lookups(&tables);
+    println!(
+        "one old-to-new lookup, one half live: median {:.2}, minimum {:.2} nanoseconds",
+        times[ROUNDS / 2],
+        times[0]
+    );
 }
 
 fn print_row(share: &str, which: &str, times: [f64; ENGINES.len()]) {
@@ -83,13 +90,13 @@ fn verify(before: &Collection) {
     let expected = plain::check(&before.heap, before.top, &before.roots, &before.marks);
     let checked = library::check(&before.heap, before.top, &before.roots, &before.marks);
     assert!(expected.is_ok(), "a good heap is refused: {expected:?}");
-    assert_eq!(checked.result, expected);
+    assert_eq!(checked, Answer::due(&expected));
     assert_eq!(Ok(walk(before).0), expected);
     let mut left = before.clone();
     let collected = collect(&mut left);
     let mut due = before.clone();
     let live = compact(&mut due.heap, due.top as usize, &mut due.roots, &mut due.marks);
-    assert_eq!(collected.result.map(|answer| answer.live), Ok(live as u64));
+    assert_eq!((collected.code, collected.out[0]), (0, live as u64));
     assert!(
         left.heap == due.heap && left.roots == due.roots && left.marks == due.marks,
         "library and plain compactor leave different heaps, roots or marks"
@@ -154,7 +161,7 @@ fn run_compactor(copy: &mut Collection) {
     ));
 }
 
-fn collect(copy: &mut Collection) -> library::Answer<plain::Collected> {
+fn collect(copy: &mut Collection) -> Answer {
     library::collect(
         &mut copy.heap,
         copy.top,
@@ -193,4 +200,60 @@ fn add_references(fields: &[u32]) -> u64 {
         .filter(|&&word| word % 2 == 1 && word != u32::MAX)
         .map(|&word| u64::from(word / 2))
         .sum()
+}
+
+/// A heap's tables, and its live places in any order.
+struct Tables {
+    live: Vec<u64>,
+    offsets: Vec<u32>,
+    places: Vec<u32>,
+}
+
+/// Each lookup must find what the reading finds.
+fn make_tables(random: &mut Random, live: usize) -> Vec<Tables> {
+    let heaps = make_heaps(random, live);
+    let make = |heap: &Collection| {
+        let live = plain::live_table(&heap.heap, heap.top, &heap.marks);
+        let offsets = plain::offset_table(&live);
+        let mut places: Vec<u32> = (0..heap.top)
+            .filter(|&place| plain::bit(&live, u64::from(place)))
+            .collect();
+        random.shuffle(&mut places);
+        for &place in &places {
+            let expected = plain::old_to_new(&live, &offsets, place);
+            assert_eq!(
+                library::old_to_new(&live, &offsets, place),
+                Answer::due(&expected)
+            );
+        }
+        Tables {
+            live,
+            offsets,
+            places,
+        }
+    };
+    heaps.iter().map(make).collect()
+}
+
+/// The sorted nanoseconds per lookup, one for each round; a round looks up every live place of all heaps once.
+fn time_lookups(tables: &[Tables]) -> Vec<f64> {
+    let lookups: usize = tables.iter().map(|tables| tables.places.len()).sum();
+    let mut times: Vec<f64> = (0..ROUNDS)
+        .map(|_| {
+            let start = Instant::now();
+            for Tables {
+                live,
+                offsets,
+                places,
+            } in tables
+            {
+                for &place in places {
+                    black_box(library::old_to_new(live, offsets, black_box(place)));
+                }
+            }
+            start.elapsed().as_secs_f64() * 1e9 / lookups as f64
+        })
+        .collect();
+    times.sort_by(f64::total_cmp);
+    times
 }

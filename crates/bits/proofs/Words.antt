@@ -3,18 +3,18 @@ use mathlib.Core.Path.{_≡_, refl, sym, ap, ap₂, _∙_}
 use mathlib.Core.Logic.{⊎-elim, _≢_}
 use mathlib.Core.Bool.{Bool, true, false, not, _&&_, _||_, cond}
 use Prim.Native.Nat.{ℕ, zero, suc, _+_, _-_, _*_, _/_, _%_, _^_, _≤_, _<_, min, max}
-use native.Mathlib.Nat.{lt-of-lt-of-le, div-eq-of-lt, pow-suc}
-use native.Mathlib.Numerals.{one-add}
+use native.Mathlib.Nat.{lt-of-lt-of-le, div-eq-of-lt, pow-suc, mod-lt}
+use native.Mathlib.Numerals.{one-add, add-one}
 use native.Mathlib.Omega.{arith}
-use lib.Arith.{digits-mod}
+use lib.Arith.{digits-div, digits-mod}
 use lib.Bits.{bitAnd, bitOr, and-step, and-shr, or-step, or-shr, shifted-even, shifted-half}
 use lib.Count.{onesIn, ones}
 use lib.Dec.{eqb}
-use lib.Pow.{pow-pos, pow-mono, shr-shr, shl-exact, shl-shr}
+use lib.Pow.{pow-pos, pow-mono, mod-pow-add, mod-mod-pow, shr-shr, shl-exact, shl-shr}
 use borrow.Author.Tests.{eq-eqb, ne-eqb}
 use Rattle.meaning.specs.Places.{below, bitOf, bitSet}
 use Rattle.meaning.proofs.Deciding.{le-or-lt, eq-or-ne, true-or-false, clash}
-use Rattle.meaning.proofs.Counting.{below-zero, below-next, below-stay, below-flat, below-shift}
+use Rattle.meaning.proofs.Counting.{below-zero, below-next, below-stay, below-flat, below-same, below-shift}
 use Rattle.meaning.proofs.Bitmaps.{bit-low, bit-half, bit-one, bit-none}
 
 -- ## Read
@@ -68,6 +68,19 @@ unfolding ones
 ones-below k w h =
     onesIn-below w w
     ∙ ⊎-elim (λ (l : k ≤ w). below-past k w w h l) (λ (l : w < k). sym (below-past w w k (lt-pow w) (omega arith))) (le-or-lt k w)
+
+-- the j lowest bits of a word, and none above them
+bit-rest : (w i k : ℕ) → bitSet (w % 2 ^ (suc k + i)) i ≡ bitSet w i
+bit-rest w i k =
+    let e : w % 2 ^ (suc k + i) / 2 ^ i ≡ w / 2 ^ i % 2 ^ suc k = ap (λ (x : ℕ). x / 2 ^ i) (mod-pow-add w (suc k) i) ∙ digits-div (w / 2 ^ i % 2 ^ suc k) (mod-lt w (pow-pos i)) in
+    let f : w / 2 ^ i % 2 ^ suc k % 2 ≡ w / 2 ^ i % 2 = rw (← add-one k) (mod-mod-pow (w / 2 ^ i) k 1) in
+    ap (λ (x : ℕ). eqb (x % 2) 1) e ∙ ap (λ (x : ℕ). eqb x 1) f
+
+pub ones-rest : (j w : ℕ) → ones (w % 2 ^ j) ≡ below (bitSet w) j
+ones-rest j w =
+    ones-below j (w % 2 ^ j) (mod-lt w (pow-pos j))
+    ∙ below-same (bitSet (w % 2 ^ j)) (bitSet w) j
+    (λ i h. ap (λ (n : ℕ). bitSet (w % 2 ^ n) i) (let e : j ≡ suc (j - suc i) + i = omega arith in e) ∙ bit-rest w i (j - suc i))
 
 -- ## Joined and shifted
 

@@ -25,13 +25,7 @@ pub fn ones_below(word: u64, i: u32) -> u32
     requires { ⌜ i < blockWords ⌝ }
     ensures { λ r. ⌜ r ≡ below (bitSet word) i ⌝ }
 {
-    let mut n: u32 = 0;
-    let mut k: u32 = 0;
-    while k < i {
-        n += ((word >> k) % 2) as u32;
-        k += 1;
-    }
-    n
+    u64::count_ones(word % (1u64 << i))
 }
 
 // How many bits of a word are set.

@@ -1,63 +1,28 @@
--- `bits::ones_below` meets its contract. The loop has counted the k lowest bits. Assumes nothing.
-use borrow.Author.Needs.{needs}
-use mathlib.Core.Path.{_≡_, sym, ap, _∙_}
-use Prim.Native.Nat.{_≤_, _-_}
-use native.Mathlib.Numerals.{add-one}
+-- `bits::ones_below` meets its contract: the bits below i are the remainder by bit i, and their count is one operation. Assumes nothing.
+use mathlib.Core.Path.{_≡_, ap, _∙_}
+use Prim.Native.Nat.{_*_, _%_, _^_}
 use native.Mathlib.Omega.{arith}
-use Rattle.meaning.specs.Places.{below, bitSet}
-use Rattle.meaning.proofs.Counting.{below-zero, below-few}
-use Rattle.bits.proofs.Words.{below-bit}
+use native.Mathlib.Nat.{one-mul}
+use lib.Count.{ones}
+use lib.Pow.{pow-pos, shl-exact}
+use borrow.Author.Needs.{needs}
+use Rattle.bits.proofs.Words.{ones-rest}
 use Rattle.bits.proofs.ones_below.Statement.{statement}
 use Rattle.bits.proofs.ones_below.Tie as tie
+use Rattle.bits.proofs.ones_below.Reads as reads
+use Rattle.bits.proofs.ones_below.Lts as lts
 
-abbrev Inv-loop : tie.InvT-loop
-Inv-loop word i n₀ k₀ n k = (k ≤ i) × (n ≡ below (bitSet word) k)
+bit-i : (c : lts.Start reads.Pre reads.Post) → 1 * 2 ^ (c .args .i) % 2 ^ 64 ≡ 2 ^ (c .args .i)
+bit-i c = shl-exact 1 (c .args .i) 64 (omega arith) (omega arith) ∙ one-mul (2 ^ (c .args .i))
 
-abbrev μ-loop : tie.MeasureT-loop
-μ-loop word i n₀ k₀ n k = i - k
+shl-result : tie.Need-shl-result
+shl-result c = search needs
 
-loop-holds : tie.Need-loop-holds Inv-loop μ-loop
-loop-holds c = (search needs, sym (below-zero _))
+rem-result : tie.Need-rem-result
+rem-result c = omega (arith, bit-i c, pow-pos (c .args .i))
 
-cast-n : tie.Need-cast-n Inv-loop μ-loop
-cast-n c = search needs
-
-shr-n : tie.Need-shr-n Inv-loop μ-loop
-shr-n c = search needs
-
-cast-n-2 : tie.Need-cast-n-2 Inv-loop μ-loop
-cast-n-2 c = search needs
-
-add-n : tie.Need-add-n Inv-loop μ-loop
-add-n c = let w = c .before .before .args .word in
-    omega (arith, below-few (bitSet w) (c .before .loop .k))
-
-add-k : tie.Need-add-k Inv-loop μ-loop
-add-k c = search needs
-
-loop-less : tie.Need-loop-less Inv-loop μ-loop
-loop-less c = search needs
-
-loop-again : tie.Need-loop-again Inv-loop μ-loop
-loop-again c = let w = c .before .before .args .word in
-    (search needs, rw add-one (omega (arith, below-bit w (c .before .loop .k))))
-
-returns : tie.Need-returns Inv-loop μ-loop
-returns c = let w = c .before .before .args .word in
-    c .before .loop .inv .1 ∙ ap (below (bitSet w)) (omega arith)
+returns : tie.Need-returns
+returns c = ap (λ n. ones (c .args .word % n)) (bit-i c) ∙ ones-rest (c .args .i) (c .args .word)
 
 pub ones-below-spec : {M : Type 1} → statement M
-ones-below-spec =
-    tie.close
-    (tie.spec
-    Inv-loop
-    μ-loop
-    loop-holds
-    cast-n
-    shr-n
-    cast-n-2
-    add-n
-    add-k
-    loop-less
-    loop-again
-    returns)
+ones-below-spec = tie.close (tie.spec shl-result rem-result returns)

@@ -5,7 +5,6 @@ use mathlib.Core.Bool.{true}
 use mathlib.Core.List.{List}
 use Prim.Native.Nat.{ℕ, _+_, _-_, _*_, _≤_, _<_}
 use native.Mathlib.Omega.{arith}
-use lib.Bits.{bitAnd}
 use lib.Count.{trailingZeros}
 use lib.ListN.{length, getD}
 use Rattle.meaning.specs.Limits.{blockWords}
@@ -13,8 +12,11 @@ use Rattle.meaning.specs.Places.{below, src, bitSet, marked}
 use Rattle.meaning.proofs.Deciding.{le-or-lt}
 use Rattle.meaning.proofs.Counting.{below-zero, below-mono, src-at}
 use Rattle.meaning.proofs.Bitmaps.{Fit, marked-block, marked-in, below-block}
+use Rattle.bits.proofs.BitLoop.{Left}
 use Rattle.blocks.specs.Cursors.{livePlaces, Dropped, Before}
+use Rattle.blocks.specs.Runs.{Run}
 use Rattle.blocks.proofs.DroppedBits.{dropped-start, dropped-next, dropped-end}
+use Rattle.blocks.proofs.RunsOfBits.{below-run, run-word, run-within, dropped-run}
 
 module _ (live : List ℕ) where
   -- the live places below the block after block b
@@ -47,26 +49,33 @@ module _ (live : List ℕ) where
   seeking-end j b left rest s d = record { dropped = left; word = d; count = s .count }
 
   -- ## Moved on
-  -- live word number j stands at bit z of word b, and then `rest` is left of that word
-  pub record Here (j b z rest : ℕ) : Type 0 where
-    pub within : z < blockWords
-    pub is-live : marked live (blockWords * b + z) ≡ true
-    pub place : getD (livePlaces live) j 0 ≡ blockWords * b + z
-    pub next : Before live (j + 1) (record { block = b; rest = rest })
+  -- live words number j to j + k - 1 stand in a row from bit z of word b on, and past them is the cursor with what is then left of that word
+  pub record Row (j b rest z k : ℕ) : Type 0 where
+    pub within : z + k ≤ blockWords
+    pub is-live : (i : ℕ) → i < k → marked live (blockWords * b + z + i) ≡ true
+    pub places : (i : ℕ) → i < k → getD (livePlaces live) (j + i) 0 ≡ blockWords * b + z + i
+    pub next : (rest′ : ℕ) → Left blockWords rest rest′ (z + k) → Before live (j + k) (record { block = b; rest = rest′ })
 
-  pub before-here : (j b rest : ℕ) → Before live j (record { block = b; rest = rest }) → rest ≢ 0 → Here j b (trailingZeros blockWords rest) (bitAnd rest (rest - 1))
+  pub before-row : (j b rest most k : ℕ) → Before live j (record { block = b; rest = rest }) → rest ≢ 0 → Run rest (trailingZeros blockWords rest) most k
+      → Row j b rest (trailingZeros blockWords rest) k
   unfolding src
-  before-here j b rest w ne =
-      let t = dropped-next (getD live b 0) (w .dropped) rest ne (w .word) in
+  before-row j b rest most k w ne run =
+      let word = getD live b 0 in
       let z = trailingZeros blockWords rest in
       let p = blockWords * b + z in
-      let is-live : marked live p ≡ true = marked-block live b z (t .within) ∙ t .is-set in
-      let number : below (marked live) p ≡ j = omega (arith, below-block live b z (omega (arith, t .within)), t .number, w .count) in
+      let within = run-within word (w .dropped) rest most k (w .word) run in
+      let is-live : (i : ℕ) → i < k → marked live (p + i) ≡ true =
+      λ i l. ap (marked live) (let e : p + i ≡ blockWords * b + (z + i) = omega arith in e)
+      ∙ marked-block live b (z + i) (omega (arith, within)) ∙ run-word word (w .dropped) rest most k (w .word) run (z + i) (omega arith) (omega arith) .0 in
+      let number : below (marked live) p ≡ j = omega (arith, below-block live b z (omega (arith, within)), dropped-next word (w .dropped) rest ne (w .word) .number, w .count) in
       record {
-        within = t .within;
+        within = within;
         is-live = is-live;
-        place = rw number at (src-at (marked live) (blockWords * length live) p (marked-in live p is-live) is-live);
-        next = record { dropped = w .dropped + 1; word = t .next; count = omega (arith, w .count) };
+        places = λ i l.
+            let up : below (marked live) (p + i) ≡ j + i =
+            below-run (marked live) p i (λ q h r. ap (marked live) (let e : q ≡ p + (q - p) = omega arith in e) ∙ is-live (q - p) (omega arith)) ∙ ap (λ (x : ℕ). x + i) number in
+            rw up at (src-at (marked live) (blockWords * length live) (p + i) (marked-in live (p + i) (is-live i l)) (is-live i l));
+        next = λ rest′ l. record { dropped = w .dropped + k; word = dropped-run word (w .dropped) rest most k (w .word) run rest′ ne l; count = omega (arith, w .count) };
       }
 
   -- nothing is left of word b, and live word number j is still to come: so it stands in a word after it

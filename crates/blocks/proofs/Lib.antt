@@ -2,6 +2,8 @@
 pub mod Judging
 pub mod JudgedByEntries
 pub mod DroppedBits
+pub mod RunsOfBits
+pub mod CopiedRuns
 pub mod CursorMoves
 pub mod WordsMoved
 pub mod StepsRun

@@ -1,21 +1,25 @@
 -- A block move goes from live word to live word with the cursor, and from block to block. Assumes nothing.
-use mathlib.Core.Path.{_≡_, refl, sym, _∙_}
+use mathlib.Core.Path.{_≡_, refl, sym, ap, _∙_}
 use mathlib.Core.Logic.{_≢_}
+use mathlib.Core.Bool.{true}
 use mathlib.Core.List.{List}
 use Prim.Native.Nat.{ℕ, _+_, _-_, _*_, _≤_, _<_}
 use native.Mathlib.Omega.{arith}
-use lib.Bits.{bitAnd}
 use lib.Count.{trailingZeros}
-use lib.ListN.{length, getD, set, length-set}
+use lib.ListN.{length, getD}
 use Rattle.meaning.specs.Limits.{heapWords, blockWords, blocksOf}
-use Rattle.meaning.specs.Places.{below, src, marked}
+use Rattle.meaning.specs.Places.{below, src, bitSet, marked}
 use Rattle.meaning.specs.Blocks.{moves, step}
 use Rattle.meaning.proofs.Counting.{below-few, src-up}
-use Rattle.meaning.proofs.Bitmaps.{Fit, marked-in}
-use Rattle.meaning.proofs.BlockMoves.{moves-none, moves-next, moves-step}
+use Rattle.meaning.proofs.Bitmaps.{Fit}
+use Rattle.meaning.proofs.BlockMoves.{moves-none, moves-step}
+use Rattle.bits.proofs.LowestBit.{lowest}
+use Rattle.bits.proofs.BitLoop.{Left}
 use Rattle.blocks.specs.Cursors.{livePlaces, Before, Movable, blockEnd}
+use Rattle.blocks.specs.Runs.{Run, copies}
 use Rattle.blocks.specs.declared.Cursor.{Cursor}
-use Rattle.blocks.proofs.CursorMoves.{before-here, before-within, before-word}
+use Rattle.blocks.proofs.CopiedRuns.{moves-run}
+use Rattle.blocks.proofs.CursorMoves.{before-row, before-within, before-word}
 
 -- there are no more live words than words of the largest heap
 pub movable-few : (live : List ℕ) (total words : ℕ) → Movable live total words → total ≤ heapWords
@@ -39,13 +43,13 @@ module _ (live heap₀ : List ℕ) (total t : ℕ) where
     before = w;
   }
 
-  -- live word number j stands at bit z of word `block`: it is copied to place j, which is not above it
-  pub record Copied (heap : List ℕ) (block rest j z : ℕ) : Type 0 where
-    pub within : z < blockWords
-    pub low : blockWords * block + z < blockWords * length live
-    pub source : blockWords * block + z < length heap
+  -- the next k live words stand in a row from bit z of word `block` on: they are copied to place j, which is not above them
+  pub record Copied (heap : List ℕ) (block rest j z k : ℕ) : Type 0 where
+    pub within : z + k ≤ blockWords
+    pub source : blockWords * block + z + k ≤ length heap
     pub up : j ≤ blockWords * block + z
-    pub next : Moving (set heap j (getD heap (blockWords * block + z) 0)) block (bitAnd rest (rest - 1)) (j + 1)
+    pub next : (heap′ : List ℕ) (rest′ : ℕ) → length heap′ ≡ length heap → heap′ ≡ copies (blockWords * block + z) j k heap → Left blockWords rest rest′ (z + k)
+        → Moving heap′ block rest′ (j + k)
 
   module _ (room : Movable live total (length heap₀)) (heap : List ℕ) (block rest j : ℕ) (h : j < blockEnd total t) (w : Moving heap block rest j) where
     some : j < below (marked live) (blockWords * length live)
@@ -57,22 +61,26 @@ module _ (live heap₀ : List ℕ) (total t : ℕ) where
     pub moving-word : Fit live → rest ≡ 0 → Moving heap (block + 1) (getD live (block + 1) 0) j
     moving-word f e = record { from = w .from; to = w .to; moved = w .moved; long = w .long; before = before-word live j block some (rw e at (w .before)) f }
 
-    pub moving-next : rest ≢ 0 → Copied heap block rest j (trailingZeros blockWords rest)
+    -- the lowest bit that is left
+    pub moving-bit : rest ≢ 0 → (trailingZeros blockWords rest < blockWords) × (bitSet rest (trailingZeros blockWords rest) ≡ true)
+    moving-bit ne = let low = lowest blockWords rest ne (w .before .word .left .fits) in (low .within, low .is-set)
+
+    pub moving-run : (most k : ℕ) → j + most ≤ blockEnd total t → rest ≢ 0 → Run rest (trailingZeros blockWords rest) most k → Copied heap block rest j (trailingZeros blockWords rest) k
     unfolding src
-    moving-next ne =
-        let here = before-here live j block rest (w .before) ne in
+    moving-run most k short ne run =
+        let row = before-row live j block rest most k (w .before) ne run in
         let p = blockWords * block + trailingZeros blockWords rest in
+        let first : getD (livePlaces live) (j + 0) 0 ≡ p + 0 = row .places 0 (run .some) in
         record {
-          within = here .within;
-          low = marked-in live p (here .is-live);
-          source = omega (arith, room .inside p (here .is-live), w .long);
-          up = omega (arith, src-up (marked live) (blockWords * length live) j some, here .place);
-          next = record {
+          within = row .within;
+          source = omega (arith, run .some, room .inside (p + (k - 1)) (row .is-live (k - 1) (omega (arith, run .some))), w .long);
+          up = omega (arith, src-up (marked live) (blockWords * length live) (j + 0) (omega (arith, some)), first);
+          next = λ heap′ rest′ long copied l. record {
             from = omega (arith, w .from);
-            to = omega arith;
-            moved = rw (w .moved, ← here .place) (sym (moves-next (livePlaces live) (blockWords * t) heap₀ j (w .from)));
-            long = length-set heap j _ ∙ w .long;
-            before = here .next;
+            to = omega (arith, run .few);
+            moved = copied ∙ ap (copies p j k) (w .moved) ∙ sym (moves-run (livePlaces live) (blockWords * t) heap₀ p j (w .from) k (row .places));
+            long = long ∙ w .long;
+            before = row .next rest′ l;
           };
         }
 

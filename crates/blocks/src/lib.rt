@@ -4,11 +4,14 @@ ghost use mathlib.Core.List.{List};
 ghost use Prim.Native.Nat.{ℕ, _*_, _≤_, _<_};
 ghost use lib.ListN.{length, getD};
 ghost use Rattle.meaning.specs.Limits.{heapWords, blockWords, tableEntries, blocksOf};
-ghost use Rattle.meaning.specs.Places.{below, bitSet, marked};
+ghost use Rattle.meaning.specs.Places.{below, bitSet};
 ghost use Rattle.meaning.specs.Blocks.{step, run};
 ghost use Rattle.meaning.proofs.TwoTargets.{goesOk, earlyBy};
 ghost use Rattle.blocks.specs.Entries.{entryAt, stepBreaks, lengthBreaks, entryBreaks, verdictOf, Bounded, Ticks};
 ghost use Rattle.blocks.specs.Cursors.{livePlaces, HasWord, Dropped, Before, Movable, blockEnd};
+
+pub mod runs;
+
 use limits::BLOCK_WORDS;
 use limits::TABLE_ENTRIES;
 
@@ -161,7 +164,7 @@ fn block_end(total: usize, t: usize) -> usize
     if end < total { end } else { total }
 }
 
-// Step t: its live words go to their new places, one after the other. The cursor stands before the first of them, and then past the last.
+// Step t: its live words go to their new places, one run of neighbours after the other. The cursor stands before the first of them, and then past the last.
 pub fn move_block(heap: &mut [u32], live: &[u64], total: usize, t: usize, from: Cursor) -> Cursor
     requires { ⌜ Movable (now live) total (length (now heap)) × (t < blocksOf total) × Before (now live) (blockWords * t) from ⌝ }
     ensures { λ r. ⌜ (now (heap .exit) ≡ step (livePlaces (now (live .entry))) t (now (heap .entry))) × Before (now (live .entry)) (blockEnd total t) r ⌝ }
@@ -175,10 +178,11 @@ pub fn move_block(heap: &mut [u32], live: &[u64], total: usize, t: usize, from: 
             block += 1;
             rest = live[block];
         } else {
-            let p = BLOCK_WORDS * block + u64::trailing_zeros(rest) as usize;
-            heap[j] = heap[p];
-            rest = rest & (rest - 1);
-            j += 1;
+            let z = u64::trailing_zeros(rest) as usize;
+            let k = runs::run_length(rest, z, end - j);
+            runs::move_words(heap, BLOCK_WORDS * block + z, j, k);
+            rest = runs::left_from(rest, z + k);
+            j += k;
         }
     }
     Cursor {

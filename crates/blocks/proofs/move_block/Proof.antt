@@ -1,11 +1,14 @@
 -- `blocks::move_block` meets its contract. The step's live words before number j are moved, and the cursor stands before that one. Assumes nothing.
 use borrow.Author.Needs.{needs}
+use mathlib.Core.Path.{_≡_}
+use mathlib.Core.Bool.{true}
 use Prim.Native.Nat.{_+_, _-_, _<_}
 use native.Mathlib.Omega.{arith}
 use lib.Count.{trailingZeros}
 use lib.ListN.{length}
 use Rattle.meaning.specs.Limits.{blockWords}
-use Rattle.blocks.proofs.WordsMoved.{movable-few, Moving, Copied, moving-start, moving-within, moving-word, moving-next, moving-end}
+use Rattle.meaning.specs.Places.{bitSet}
+use Rattle.blocks.proofs.WordsMoved.{movable-few, Moving, Copied, moving-start, moving-within, moving-word, moving-bit, moving-run, moving-end}
 use Rattle.blocks.proofs.move_block.Statement.{statement}
 use Rattle.blocks.proofs.move_block.Tie as tie
 
@@ -46,46 +49,57 @@ loop-again c =
     let l = c .before .before .before in
     moving-word _ _ _ _ (l .before .before .before .before .pre .0) _ _ _ _ (omega arith) (l .loop .inv) (λ b. c .shared-slice-known2 .given b .fits) (c .before .if1 .taken)
 
--- ## Its next set bit
+-- ## The set bits in a row from its lowest on
 module _ (c : tie.Else1 Inv-loop μ-loop) where
-  copied : Copied (c .before .before .before .before .before .before .args .live .now) (c .before .before .before .before .before .before .args .heap .now)
-      (c .before .before .before .before .before .before .args .total) (c .before .before .before .before .before .before .args .t)
-      (c .before .before .loop .heap) (c .before .before .loop .block) (c .before .before .loop .rest) (c .before .before .loop .j)
-      (trailingZeros blockWords (c .before .before .loop .rest))
-  copied = moving-next _ _ _ _ (c .before .before .before .before .before .before .pre .0) _ _ _ _ (omega arith) (c .before .before .loop .inv) (c .if1 .left)
+  bit : (trailingZeros blockWords (c .before .before .loop .rest) < blockWords) × (bitSet (c .before .before .loop .rest) (trailingZeros blockWords (c .before .before .loop .rest)) ≡ true)
+  bit = moving-bit _ _ _ _ (c .before .before .before .before .before .before .pre .0) _ _ _ _ (omega arith) (c .before .before .loop .inv) (c .if1 .left)
 
-mul-p : tie.Need-mul-p Inv-loop μ-loop
-mul-p c = let w = copied c in omega arith
+cast-z : tie.Need-cast-z Inv-loop μ-loop
+cast-z c = let b = bit c in omega arith
 
-cast-p : tie.Need-cast-p Inv-loop μ-loop
-cast-p c = let w = copied c in omega arith
+sub-run-length : tie.Need-sub-run-length Inv-loop μ-loop
+sub-run-length c = search needs
 
-add-p : tie.Need-add-p Inv-loop μ-loop
-add-p c = let w = copied c in omega arith
+run-length-requires : tie.Need-run-length-requires Inv-loop μ-loop
+run-length-requires c κs = let b = bit c in (b .0, b .1, omega arith)
 
-mul-heap : tie.Need-mul-heap Inv-loop μ-loop
-mul-heap c = let w = copied c in omega arith
+module _ (c : tie.After-run-length Inv-loop μ-loop) where
+  copied : Copied (c .before .before .before .before .before .before .before .args .live .now) (c .before .before .before .before .before .before .before .args .heap .now)
+      (c .before .before .before .before .before .before .before .args .total) (c .before .before .before .before .before .before .before .args .t)
+      (c .before .before .before .loop .heap) (c .before .before .before .loop .block) (c .before .before .before .loop .rest) (c .before .before .before .loop .j)
+      (trailingZeros blockWords (c .before .before .before .loop .rest)) (c .run-length .result)
+  copied =
+      let l = c .before .before .before in
+      moving-run _ _ _ _ (l .before .before .before .before .pre .0) _ _ _ _ (omega arith) (l .loop .inv) _ _ (omega arith) (c .before .if1 .left) (c .run-length .ensures)
 
-slice-read-heap : tie.Need-slice-read-heap Inv-loop μ-loop
-slice-read-heap c = let w = copied (c .before) in omega arith
+mul-move-words : tie.Need-mul-move-words Inv-loop μ-loop
+mul-move-words c = let w = copied (c .before) in omega arith
 
-mul-heap-2 : tie.Need-mul-heap-2 Inv-loop μ-loop
-mul-heap-2 c = let w = copied (c .before) in omega arith
+add-move-words : tie.Need-add-move-words Inv-loop μ-loop
+add-move-words c = let w = copied (c .before) in omega arith
 
-slice-write-heap : tie.Need-slice-write-heap Inv-loop μ-loop
-slice-write-heap c = let w = copied (c .before) in omega arith
+move-words-requires : tie.Need-move-words-requires Inv-loop μ-loop
+move-words-requires c κs = let w = copied (c .before) in (c .before .run-length .ensures .some, w .source, w .up)
 
-sub-rest : tie.Need-sub-rest Inv-loop μ-loop
-sub-rest c = search needs
+add-left-from : tie.Need-add-left-from Inv-loop μ-loop
+add-left-from c = let w = copied (c .before .before .before .before) in omega arith
+
+left-from-requires : tie.Need-left-from-requires Inv-loop μ-loop
+left-from-requires c κs = let r = c .before .before .before .before in
+    let w = copied r in (omega (arith, r .run-length .ensures .some), w .within)
 
 add-j : tie.Need-add-j Inv-loop μ-loop
-add-j c = search needs
+add-j c = let r = c .before .before .before .before .before in
+    let w = copied r in omega arith
 
 loop-less-2 : tie.Need-loop-less-2 Inv-loop μ-loop
-loop-less-2 c = search needs
+loop-less-2 c = let r = c .before .before .before .before .before in
+    omega (arith, r .run-length .ensures .some, r .run-length .ensures .few)
 
 loop-again-2 : tie.Need-loop-again-2 Inv-loop μ-loop
-loop-again-2 c = copied (c .before) .next
+loop-again-2 c =
+    let m = c .before .before .before .move-words in
+    copied (c .before .before .before .before .before) .next _ _ (m .kept .0) (m .ensures) (c .left-from .ensures)
 
 same-length : tie.Need-same-length Inv-loop μ-loop
 same-length c = c .before .loop .inv .long
@@ -109,14 +123,14 @@ move-block-spec =
     shared-slice-read-rest
     loop-less
     loop-again
-    mul-p
-    cast-p
-    add-p
-    mul-heap
-    slice-read-heap
-    mul-heap-2
-    slice-write-heap
-    sub-rest
+    cast-z
+    sub-run-length
+    run-length-requires
+    mul-move-words
+    add-move-words
+    move-words-requires
+    add-left-from
+    left-from-requires
     add-j
     loop-less-2
     loop-again-2

@@ -1,18 +1,46 @@
--- The promises of the store calls settle the number and all lent memory: two ends of one call are the same. A refused call leaves the
--- record as found, and any call leaves its words from 2 on. Assumes nothing.
+-- The promises of the functions for C settle the number and all lent memory: two ends of one call are the same. A refused store call
+-- leaves the record as found, and any leaves its words from 2 on. Assumes nothing.
 use Prim.Native.Nat.{ℕ, _+_, _*_, _≤_}
 use mathlib.Core.Path.{_≡_, refl, sym, _∙_}
 use mathlib.Core.List.{List}
 use lib.ListN.{getD, set}
 use lib.Seq.{getD-set-other}
 use native.Mathlib.Omega.{arith}
-use Rattle.meaning.specs.Answers.{refused}
+use Rattle.meaning.specs.Answers.{Answer, refused}
+use Rattle.meaning.specs.Collect.{After}
 use Rattle.meaning.specs.Calls.{Brought}
 use Rattle.meaning.specs.Sequences.{Step, collect, step}
-use Rattle.hasurimba.specs.Out.{code}
+use Rattle.hasurimba.specs.Out.{code, Says, SaysCollected}
 use Rattle.hasurimba.proofs.KeptStore.{put-back}
 use Rattle.hasurimba.specs.Kept.{memory, saidBy, afterIt, Leaves, TellsCall, SaysCall, SaysCollect}
 
+-- ## The check, the lookups and the bare collection
+pub answer-settled : {A : Type 0} (values : A → List ℕ) (a : Answer A) (out : List ℕ) (r r′ : ℕ) (out₁ out₂ : List ℕ) → Says values a out r out₁ → Says values a out r′ out₂ → (r ≡ r′) × (out₁ ≡ out₂)
+answer-settled values a out r r′ out₁ out₂ p q = (p .number ∙ sym (q .number), p .words ∙ sym (q .words))
+
+-- two ends of a collection: heap, roots, marks and both tables
+pub record SameBuffers (heap heap′ roots roots′ marks marks′ live live′ offsets offsets′ : List ℕ) : Type 0 where
+  pub heaps : heap ≡ heap′
+  pub roots-same : roots ≡ roots′
+  pub marks-same : marks ≡ marks′
+  pub lives : live ≡ live′
+  pub offsets-same : offsets ≡ offsets′
+
+pub bare-collect-settled : (c : After) (out : List ℕ) (r r′ : ℕ) (heap₁ heap₂ roots₁ roots₂ marks₁ marks₂ live₁ live₂ offsets₁ offsets₂ out₁ out₂ : List ℕ)
+    → SaysCollected c out r heap₁ roots₁ marks₁ live₁ offsets₁ out₁ → SaysCollected c out r′ heap₂ roots₂ marks₂ live₂ offsets₂ out₂
+    → ((r ≡ r′) × (out₁ ≡ out₂)) × SameBuffers heap₁ heap₂ roots₁ roots₂ marks₁ marks₂ live₁ live₂ offsets₁ offsets₂
+bare-collect-settled c out r r′ heap₁ heap₂ roots₁ roots₂ marks₁ marks₂ live₁ live₂ offsets₁ offsets₂ out₁ out₂ p q = (
+  (p .says .number ∙ sym (q .says .number), p .says .words ∙ sym (q .says .words)),
+  record {
+    heaps = p .heap-is ∙ sym (q .heap-is);
+    roots-same = p .roots-are ∙ sym (q .roots-are);
+    marks-same = p .marks-are ∙ sym (q .marks-are);
+    lives = p .live-is ∙ sym (q .live-is);
+    offsets-same = p .offsets-are ∙ sym (q .offsets-are);
+  },
+)
+
+-- ## The store calls
 -- two ends: number, record, heap and roots
 pub record Same (r r′ : ℕ) (kept kept′ heap heap′ roots roots′ : List ℕ) : Type 0 where
   pub numbers : r ≡ r′

@@ -13,10 +13,10 @@ use Rattle.meaning.proofs.Deciding.{le-or-lt}
 use Rattle.meaning.proofs.Counting.{below-zero, below-mono, src-at}
 use Rattle.meaning.proofs.Bitmaps.{Fit, marked-block, marked-in, below-block}
 use Rattle.bits.proofs.BitLoop.{Left}
+use Rattle.runs.specs.Runs.{Run}
+use Rattle.runs.proofs.RunsOfBits.{below-run}
 use Rattle.blocks.specs.Cursors.{livePlaces, Dropped, Before}
-use Rattle.blocks.specs.Runs.{Run}
-use Rattle.blocks.proofs.DroppedBits.{dropped-start, dropped-next, dropped-end}
-use Rattle.blocks.proofs.RunsOfBits.{below-run, run-word, run-within, dropped-run}
+use Rattle.blocks.proofs.DroppedBits.{dropped-start, dropped-next, dropped-end, run-word, run-within, dropped-run}
 
 module _ (live : List ℕ) where
   -- the live places below the block after block b

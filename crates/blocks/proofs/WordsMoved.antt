@@ -15,10 +15,10 @@ use Rattle.meaning.proofs.Bitmaps.{Fit}
 use Rattle.meaning.proofs.BlockMoves.{moves-none, moves-step}
 use Rattle.bits.proofs.LowestBit.{lowest}
 use Rattle.bits.proofs.BitLoop.{Left}
+use Rattle.runs.specs.Runs.{Run, copies}
+use Rattle.runs.proofs.CopiedRuns.{moves-run}
 use Rattle.blocks.specs.Cursors.{livePlaces, Before, Movable, blockEnd}
-use Rattle.blocks.specs.Runs.{Run, copies}
 use Rattle.blocks.specs.declared.Cursor.{Cursor}
-use Rattle.blocks.proofs.CopiedRuns.{moves-run}
 use Rattle.blocks.proofs.CursorMoves.{before-row, before-within, before-word}
 
 -- there are no more live words than words of the largest heap

@@ -9,9 +9,9 @@ use Rattle.meaning.specs.Limits.{blockWords, tableEntries}
 use Rattle.meaning.specs.Places.{placesFrom, below, marked}
 use Rattle.meaning.specs.Blocks.{orderBreaks}
 use Rattle.meaning.proofs.Bitmaps.{length-table, getD-table}
-use Rattle.blocks.specs.Entries.{Bounded, entryBreaks, verdictOf}
-use Rattle.blocks.specs.declared.Verdict.the-variants.{Keeps, Breaks}
-use Rattle.blocks.proofs.JudgedByEntries.{entries-bounded, entries-judge}
+use Rattle.orders.specs.Entries.{Bounded, entryBreaks, verdictOf}
+use Rattle.orders.specs.declared.Verdict.the-variants.{Keeps, Breaks}
+use Rattle.orders.proofs.JudgedByEntries.{entries-bounded, entries-judge}
 use Rattle.tables.specs.Filled.{Filled}
 use Rattle.compactor.specs.declared.Prepared.the-variants.{Ready, Misordered}
 use Rattle.compactor.specs.Phases.{Tabled, Settled}

@@ -12,11 +12,11 @@ ghost use Rattle.compactor.specs.Phases.{Settleable, Settled, PreparedAs
 
 pub mod fix;
 
-use blocks::Verdict;
 use limits::BLOCK_WORDS;
 use limits::ORDER_ENTRIES;
 use limits::TABLE_ENTRIES;
 use objects::Judged;
+use orders::Verdict;
 
 // What preparing ends with: so many live words ready to be moved, or a refusal by 2 to 5, or by 6.
 pub enum Prepared {
@@ -51,7 +51,7 @@ fn settle(
     ensures { λ r. ⌜ Settled (now (words .entry)) (length (now (live .entry))) (now (order .entry)) (now (live .exit)) (now (offsets .exit)) r ⌝ }
 {
     let total = tables::fill(words, live, offsets);
-    let verdict = blocks::judge(order, offsets, total);
+    let verdict = orders::judge(order, offsets, total);
     match verdict {
         Verdict::Keeps => Prepared::Ready(total),
         Verdict::Breaks(i) => Prepared::Misordered(i),
@@ -122,7 +122,7 @@ pub fn finish(
     let objects = bits::count_below(marks, BLOCK_WORDS * marks.len());
     slide(heap, top, roots, order, live, offsets, refs, total);
     bits::clear(marks);
-    Collected::Done(total as u32, objects as u32, blocks::targets(total) as u32)
+    Collected::Done(total as u32, objects as u32, orders::targets(total) as u32)
 }
 
 // The collection. Refusals 1 to 5 leave every buffer as found; refusal 6 leaves all but the tables, which are filled.

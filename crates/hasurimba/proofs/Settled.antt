@@ -10,9 +10,9 @@ use Rattle.meaning.specs.Answers.{Answer, refused}
 use Rattle.meaning.specs.Collect.{After}
 use Rattle.meaning.specs.Calls.{Brought}
 use Rattle.meaning.specs.Sequences.{Step, collect, step}
-use Rattle.hasurimba.specs.Out.{code, Says, SaysCollected}
-use Rattle.hasurimba.proofs.KeptStore.{put-back}
-use Rattle.hasurimba.specs.Kept.{memory, saidBy, afterIt, Leaves, TellsCall, SaysCall, SaysCollect}
+use Rattle.telling.specs.Out.{code, Says, SaysCollected}
+use Rattle.keeping.proofs.KeptStore.{put-back}
+use Rattle.keeping.specs.Kept.{memory, saidBy, afterIt, Leaves, TellsCall, SaysCall, SaysCollect}
 
 -- ## The check, the lookups and the bare collection
 pub answer-settled : {A : Type 0} (values : A → List ℕ) (a : Answer A) (out : List ℕ) (r r′ : ℕ) (out₁ out₂ : List ℕ) → Says values a out r out₁ → Says values a out r′ out₂ → (r ≡ r′) × (out₁ ≡ out₂)

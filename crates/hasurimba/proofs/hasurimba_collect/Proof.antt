@@ -1,6 +1,6 @@
 -- `hasurimba_collect` meets its contract: the collection's answer, said. Assumes nothing.
 use borrow.Author.Needs.{needs}
-use Rattle.hasurimba.proofs.Saying.{says-collected}
+use Rattle.telling.proofs.Saying.{says-collected}
 use Rattle.hasurimba.proofs.hasurimba_collect.Statement.{statement}
 use Rattle.hasurimba.proofs.hasurimba_collect.Tie as tie
 

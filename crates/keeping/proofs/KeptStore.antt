@@ -12,14 +12,14 @@ use Rattle.meaning.specs.Answers.{refused}
 use Rattle.meaning.specs.Limits.{heapWords, rootSlots, blocksOf}
 use Rattle.meaning.specs.Calls.{Call, Brought, admit, fits}
 use Rattle.meaning.specs.Collect.{collect, checked, sizesFit}
-use Rattle.meaning.specs.Store.{viewOf, answered, collects}
+use Rattle.meaning.specs.Store.{Store, Mem, viewOf, answered, collects}
 use Rattle.meaning.specs.Sequences.{Step, call, collect as collectStep, step}
 use Rattle.store.specs.Contract.{storeOf, saidOf, Leaves as LeavesStore, LeavesCollected}
 use Rattle.store.specs.declared.Answer.{Answer as StoreAnswer}
 use Rattle.store.specs.declared.Said.{Said as SaidByStore}
 use Rattle.store.specs.declared.Said.the-variants.{Refused}
 use Rattle.telling.specs.Out.{code, saidWords, Says}
-use Rattle.keeping.specs.Kept.{memory, withStore, Leaves, TellsCall, SaysCall, LeavesTables, SaysCollect, Gets, GetsCollected}
+use Rattle.keeping.specs.Kept.{memory, storeIn, withStore, Leaves, TellsCall, SaysCall, LeavesTables, SaysCollect, Gets, GetsCollected}
 use Rattle.telling.proofs.Saying.{says-same}
 
 -- ## A top past 32 bits
@@ -68,21 +68,30 @@ collect-past kept heap roots b h =
     }
 
 -- ## A call that the store answered, and whose record is kept
-pub step-kept : (kept heap roots : List ℕ) (k : Step) (r : StoreAnswer) (kept′ heap′ roots′ : List ℕ)
+-- m is the store that was held, as the record has it
+pub memory-held : (kept heap roots : List ℕ) (m : Store) → m ≡ storeIn kept → record { heap = heap; slots = roots; store = m } ≡ memory kept heap roots
+memory-held kept heap roots m e = ap (λ s. record { heap = heap; slots = roots; store = s }) e
+
+leaves-kept : (kept heap roots : List ℕ) (k : Step) (r : StoreAnswer) (kept′ heap′ roots′ : List ℕ)
     → LeavesStore (memory kept heap roots) (step (memory kept heap roots) k) r heap′ roots′ → kept′ ≡ withStore kept (storeOf (r .store))
     → Gets kept heap roots k (r .said) kept′ heap′ roots′
-step-kept kept heap roots k r kept′ heap′ roots′ l e = record {
+leaves-kept kept heap roots k r kept′ heap′ roots′ l e = record {
   answer-is = l .answer-is;
   leaves = record { kept-is = e ∙ ap (withStore kept) (l .store-is); heap-is = l .heap-is; roots-are = l .slots-are };
 }
 
-pub collect-kept : (kept heap roots : List ℕ) (b : Brought) (r : StoreAnswer) (kept′ heap′ roots′ marks′ live′ offsets′ : List ℕ)
-    → LeavesCollected (memory kept heap roots) b r heap′ roots′ marks′ live′ offsets′ → kept′ ≡ withStore kept (storeOf (r .store))
-    → GetsCollected kept heap roots b (r .said) kept′ heap′ roots′ marks′ live′ offsets′
-collect-kept kept heap roots b r kept′ heap′ roots′ marks′ live′ offsets′ l e = record {
-  gets = step-kept kept heap roots (collectStep b) r kept′ heap′ roots′ (l .leaves) e;
-  tables = record { marks-are = l .marks-are; live-is = l .live-is; offsets-are = l .offsets-are };
-}
+module _ (kept heap roots : List ℕ) (m : Mem) (held : m ≡ memory kept heap roots) (r : StoreAnswer) (kept′ heap′ roots′ : List ℕ) (put : kept′ ≡ withStore kept (storeOf (r .store))) where
+  pub step-kept : (k : Step) → LeavesStore m (step m k) r heap′ roots′ → Gets kept heap roots k (r .said) kept′ heap′ roots′
+  step-kept k l = leaves-kept kept heap roots k r kept′ heap′ roots′ (rw (← held) l) put
+
+  pub collect-kept : (b : Brought) (marks′ live′ offsets′ : List ℕ) → LeavesCollected m b r heap′ roots′ marks′ live′ offsets′
+      → GetsCollected kept heap roots b (r .said) kept′ heap′ roots′ marks′ live′ offsets′
+  collect-kept b marks′ live′ offsets′ l =
+      let l′ : LeavesCollected (memory kept heap roots) b r heap′ roots′ marks′ live′ offsets′ = rw (← held) l in
+      record {
+        gets = leaves-kept kept heap roots (collectStep b) r kept′ heap′ roots′ (l′ .leaves) put;
+        tables = record { marks-are = l′ .marks-are; live-is = l′ .live-is; offsets-are = l′ .offsets-are };
+      }
 
 -- ## What is said
 pub tells : {kept heap roots : List ℕ} {k : Step} {r : SaidByStore} {kept′ heap′ roots′ : List ℕ} {n : ℕ}

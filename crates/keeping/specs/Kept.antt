@@ -12,8 +12,11 @@ use Rattle.store.specs.declared.Said.{Said as SaidByStore}
 use Rattle.telling.specs.Out.{code, saidWords, Says}
 
 -- word 0 of the record is the top, word 1 the calls answered
+abbrev pub storeIn : List ℕ → Store
+storeIn kept = record { top = getD kept 0 0; calls = getD kept 1 0 }
+
 abbrev pub memory : List ℕ → List ℕ → List ℕ → Mem
-memory kept heap roots = record { heap = heap; slots = roots; store = record { top = getD kept 0 0; calls = getD kept 1 0 } }
+memory kept heap roots = record { heap = heap; slots = roots; store = storeIn kept }
 
 -- the record with a store put in; words 2 to 7 stay as found
 abbrev pub withStore : List ℕ → Store → List ℕ

@@ -1,11 +1,24 @@
 // A store call on the record that C keeps: eight words, word 0 the top and word 1 the calls answered.
 ghost use mathlib.Core.Path.{_≡_};
+ghost use Prim.Native.Nat.{_<_};
+ghost use lib.ListN.{getD};
 ghost use Rattle.meaning.specs.Sequences.{call};
 ghost use Rattle.store.specs.Contract.{callOf, broughtOf, storeOf};
-ghost use Rattle.keeping.specs.Kept.{withStore, Gets, TellsCall, SaysCall, GetsCollected};
+ghost use Rattle.keeping.specs.Kept.{storeIn, withStore, Gets, TellsCall, SaysCall, GetsCollected};
 use store::Call;
 use store::Said;
 use store::Store;
+
+// The store in the record, where its top fits 32 bits.
+fn held(kept: &[u64; 8]) -> Store
+    requires { ⌜ getD (now kept) 0 0 < 4294967296 ⌝ }
+    ensures { λ r. ⌜ storeOf r ≡ storeIn (now (kept .entry)) ⌝ }
+{
+    Store {
+        top: kept[0] as u32,
+        calls: kept[1],
+    }
+}
 
 // The record with the store put in; words 2 to 7 stay as found.
 fn keep(kept: &mut [u64; 8], store: Store)
@@ -20,15 +33,10 @@ fn answer(kept: &mut [u64; 8], heap: &mut [u32], roots: &mut [u32], wanted: Call
     ensures { λ r. ⌜ Gets (now (kept .entry)) (now (heap .entry)) (now (roots .entry)) (call (callOf wanted))
         r (now (kept .exit)) (now (heap .exit)) (now (roots .exit)) ⌝ }
 {
-    let top = kept[0];
-    if 4294967296 <= top {
+    if 4294967296 <= kept[0] {
         return Said::Refused(1, 0);
     }
-    let store = Store {
-        top: top as u32,
-        calls: kept[1],
-    };
-    let answer = store::answering::answer(store, heap, roots, wanted);
+    let answer = store::answering::answer(held(kept), heap, roots, wanted);
     let after = answer.store;
     keep(kept, after);
     answer.said
@@ -70,15 +78,10 @@ pub fn collect(
         (broughtOf (now (marks .entry)) (now (order .entry)) (now (live .entry)) (now (offsets .entry)))
         r (now (kept .exit)) (now (heap .exit)) (now (roots .exit)) (now (marks .exit)) (now (live .exit)) (now (offsets .exit)) ⌝ }
 {
-    let top = kept[0];
-    if 4294967296 <= top {
+    if 4294967296 <= kept[0] {
         return Said::Refused(1, 0);
     }
-    let store = Store {
-        top: top as u32,
-        calls: kept[1],
-    };
-    let answer = store::collecting::collect(store, heap, roots, marks, order, live, offsets);
+    let answer = store::collecting::collect(held(kept), heap, roots, marks, order, live, offsets);
     let after = answer.store;
     keep(kept, after);
     answer.said

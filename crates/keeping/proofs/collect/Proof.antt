@@ -2,23 +2,20 @@
 use borrow.Author.Needs.{needs}
 use denote.Ref.{now}
 use Rattle.store.specs.Contract.{broughtOf}
-use Rattle.keeping.proofs.KeptStore.{collect-past, collect-kept}
+use Rattle.keeping.proofs.KeptStore.{collect-past, memory-held, collect-kept}
 use Rattle.keeping.proofs.collect.Statement.{statement}
 use Rattle.keeping.proofs.collect.Tie as tie
 
-element-copy-out-top : tie.Need-element-copy-out-top
-element-copy-out-top c = search needs
+element-copy-out-if1 : tie.Need-element-copy-out-if1
+element-copy-out-if1 c = search needs
 
 returns : tie.Need-returns
 returns c =
     let a = c .before .before .before .before .before .before .before .before .args in
     collect-past (now (a .kept)) (now (a .heap)) (now (a .roots)) (broughtOf (now (a .marks)) (now (a .order)) (now (a .live)) (now (a .offsets))) (c .if1 .taken)
 
-cast-t16 : tie.Need-cast-t16
-cast-t16 c = search needs
-
-element-copy-out-t14 : tie.Need-element-copy-out-t14
-element-copy-out-t14 c = search needs
+held-requires : tie.Need-held-requires
+held-requires c κs = search needs
 
 collect-requires : tie.Need-collect-requires
 collect-requires c κs = search needs
@@ -43,19 +40,20 @@ same-length-5 c = search needs
 
 returns-2 : tie.Need-returns-2
 returns-2 c =
-    let a = c .before .before .before .before .before .before .before .before .before .before .before .before .before .before .before .before .before .before .before .before .before .before .before .before .before .before .before .before .args in
+    let a = c .before .before .before .before .before .before .before .before .before .before .before .before .before .before .before .before .before .before .before .before .before .before .before .before .before .before .before .before .before .args in
     let k = c .before .before .before .before .before .before .before .before .before .before .before .before .before .collect in
-    collect-kept (now (a .kept)) (now (a .heap)) (now (a .roots)) (broughtOf (now (a .marks)) (now (a .order)) (now (a .live)) (now (a .offsets)))
-    (k .result) (c .keep .last .0) (k .last .1 .0) (k .last .1 .1 .0) (k .last .1 .1 .1 .0) (k .last .1 .1 .1 .1 .1 .0) (k .last .1 .1 .1 .1 .1 .1 .0) (k .ensures) (c .keep .ensures)
+    let held = memory-held (now (a .kept)) (now (a .heap)) (now (a .roots)) _ (c .before .before .before .before .before .before .before .before .before .before .before .before .before .before .before .before .before .before .before .held .ensures) in
+    collect-kept (now (a .kept)) (now (a .heap)) (now (a .roots)) _ held (k .result) (c .keep .last .0) (k .last .1 .0) (k .last .1 .1 .0) (c .keep .ensures)
+    (broughtOf (now (a .marks)) (now (a .order)) (now (a .live)) (now (a .offsets)))
+    (k .last .1 .1 .1 .0) (k .last .1 .1 .1 .1 .1 .0) (k .last .1 .1 .1 .1 .1 .1 .0) (k .ensures)
 
 pub collect-spec : {M : Type 1} → statement M
 collect-spec =
     tie.close
     (tie.spec
-    element-copy-out-top
+    element-copy-out-if1
     returns
-    cast-t16
-    element-copy-out-t14
+    held-requires
     collect-requires
     keep-requires
     same-length

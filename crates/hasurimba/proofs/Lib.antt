@@ -1,2 +1,3 @@
 -- What the promises to C settle.
 pub mod Settled
+pub mod Promises

@@ -1,4 +1,3 @@
--- Laws of what C is handed back.
-pub mod Saying
-pub mod KeptStore
+-- What the promises to C settle.
 pub mod Settled
+pub mod Promises

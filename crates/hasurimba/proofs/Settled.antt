@@ -10,13 +10,13 @@ use Rattle.meaning.specs.Answers.{Answer, refused}
 use Rattle.meaning.specs.Collect.{After}
 use Rattle.meaning.specs.Calls.{Brought}
 use Rattle.meaning.specs.Sequences.{Step, collect, step}
-use Rattle.hasurimba.specs.Out.{code, Says, SaysCollected}
-use Rattle.hasurimba.proofs.KeptStore.{put-back}
-use Rattle.hasurimba.specs.Kept.{memory, saidBy, afterIt, Leaves, TellsCall, SaysCall, SaysCollect}
+use Rattle.telling.specs.Out.{code, Says, SaysCollected}
+use Rattle.keeping.proofs.KeptStore.{put-back}
+use Rattle.keeping.specs.Kept.{memory, saidBy, afterIt, Leaves, TellsCall, SaysCall, SaysCollect}
 
 -- ## The check, the lookups and the bare collection
-pub answer-settled : {A : Type 0} (values : A → List ℕ) (a : Answer A) (out : List ℕ) (r r′ : ℕ) (out₁ out₂ : List ℕ) → Says values a out r out₁ → Says values a out r′ out₂ → (r ≡ r′) × (out₁ ≡ out₂)
-answer-settled values a out r r′ out₁ out₂ p q = (p .number ∙ sym (q .number), p .words ∙ sym (q .words))
+pub answer-settled : {A : Type 0} {values : A → List ℕ} {a : Answer A} {out : List ℕ} {r r′ : ℕ} {out₁ out₂ : List ℕ} → Says values a out r out₁ → Says values a out r′ out₂ → (r ≡ r′) × (out₁ ≡ out₂)
+answer-settled p q = (p .number ∙ sym (q .number), p .words ∙ sym (q .words))
 
 -- two ends of a collection: heap, roots, marks and both tables
 pub record SameBuffers (heap heap′ roots roots′ marks marks′ live live′ offsets offsets′ : List ℕ) : Type 0 where
@@ -26,11 +26,11 @@ pub record SameBuffers (heap heap′ roots roots′ marks marks′ live live′ 
   pub lives : live ≡ live′
   pub offsets-same : offsets ≡ offsets′
 
-pub bare-collect-settled : (c : After) (out : List ℕ) (r r′ : ℕ) (heap₁ heap₂ roots₁ roots₂ marks₁ marks₂ live₁ live₂ offsets₁ offsets₂ out₁ out₂ : List ℕ)
+pub bare-collect-settled : {c : After} {out : List ℕ} {r r′ : ℕ} {heap₁ heap₂ roots₁ roots₂ marks₁ marks₂ live₁ live₂ offsets₁ offsets₂ out₁ out₂ : List ℕ}
     → SaysCollected c out r heap₁ roots₁ marks₁ live₁ offsets₁ out₁ → SaysCollected c out r′ heap₂ roots₂ marks₂ live₂ offsets₂ out₂
     → ((r ≡ r′) × (out₁ ≡ out₂)) × SameBuffers heap₁ heap₂ roots₁ roots₂ marks₁ marks₂ live₁ live₂ offsets₁ offsets₂
-bare-collect-settled c out r r′ heap₁ heap₂ roots₁ roots₂ marks₁ marks₂ live₁ live₂ offsets₁ offsets₂ out₁ out₂ p q = (
-  (p .says .number ∙ sym (q .says .number), p .says .words ∙ sym (q .says .words)),
+bare-collect-settled p q = (
+  answer-settled (p .says) (q .says),
   record {
     heaps = p .heap-is ∙ sym (q .heap-is);
     roots-same = p .roots-are ∙ sym (q .roots-are);
@@ -48,7 +48,7 @@ pub record Same (r r′ : ℕ) (kept kept′ heap heap′ roots roots′ : List 
   pub heaps : heap ≡ heap′
   pub roots-same : roots ≡ roots′
 
-module _ (kept heap roots : List ℕ) (k : Step) (r r′ : ℕ) (kept₁ kept₂ heap₁ heap₂ roots₁ roots₂ : List ℕ) where
+module _ {kept heap roots : List ℕ} {k : Step} {r r′ : ℕ} {kept₁ kept₂ heap₁ heap₂ roots₁ roots₂ : List ℕ} where
   same-ends : r ≡ r′ → Leaves kept heap roots k kept₁ heap₁ roots₁ → Leaves kept heap roots k kept₂ heap₂ roots₂ → Same r r′ kept₁ kept₂ heap₁ heap₂ roots₁ roots₂
   same-ends e p q = record {
     numbers = e;
@@ -62,9 +62,9 @@ module _ (kept heap roots : List ℕ) (k : Step) (r r′ : ℕ) (kept₁ kept₂
   tells-settled p q = same-ends (p .number ∙ sym (q .number)) (p .leaves) (q .leaves)
 
   -- a call with values: the lent words too
-  pub says-settled : (out out₁ out₂ : List ℕ) → SaysCall kept heap roots k out r kept₁ heap₁ roots₁ out₁ → SaysCall kept heap roots k out r′ kept₂ heap₂ roots₂ out₂
+  pub says-settled : {out out₁ out₂ : List ℕ} → SaysCall kept heap roots k out r kept₁ heap₁ roots₁ out₁ → SaysCall kept heap roots k out r′ kept₂ heap₂ roots₂ out₂
       → Same r r′ kept₁ kept₂ heap₁ heap₂ roots₁ roots₂ × (out₁ ≡ out₂)
-  says-settled out out₁ out₂ p q = (same-ends (p .says .number ∙ sym (q .says .number)) (p .leaves) (q .leaves), p .says .words ∙ sym (q .says .words))
+  says-settled p q = (same-ends (p .says .number ∙ sym (q .says .number)) (p .leaves) (q .leaves), p .says .words ∙ sym (q .says .words))
 
 -- the collect call: marks and tables too
 pub record SameTables (marks marks′ live live′ offsets offsets′ : List ℕ) : Type 0 where
@@ -72,11 +72,11 @@ pub record SameTables (marks marks′ live live′ offsets offsets′ : List ℕ
   pub lives : live ≡ live′
   pub offsets-same : offsets ≡ offsets′
 
-pub collect-settled : (kept heap roots : List ℕ) (b : Brought) (r r′ : ℕ) (kept₁ kept₂ heap₁ heap₂ roots₁ roots₂ marks₁ marks₂ live₁ live₂ offsets₁ offsets₂ out out₁ out₂ : List ℕ)
+pub collect-settled : {kept heap roots : List ℕ} {b : Brought} {r r′ : ℕ} {kept₁ kept₂ heap₁ heap₂ roots₁ roots₂ marks₁ marks₂ live₁ live₂ offsets₁ offsets₂ out out₁ out₂ : List ℕ}
     → SaysCollect kept heap roots b out r kept₁ heap₁ roots₁ marks₁ live₁ offsets₁ out₁ → SaysCollect kept heap roots b out r′ kept₂ heap₂ roots₂ marks₂ live₂ offsets₂ out₂
     → (Same r r′ kept₁ kept₂ heap₁ heap₂ roots₁ roots₂ × (out₁ ≡ out₂)) × SameTables marks₁ marks₂ live₁ live₂ offsets₁ offsets₂
-collect-settled kept heap roots b r r′ kept₁ kept₂ heap₁ heap₂ roots₁ roots₂ marks₁ marks₂ live₁ live₂ offsets₁ offsets₂ out out₁ out₂ p q = (
-  says-settled kept heap roots (collect b) r r′ kept₁ kept₂ heap₁ heap₂ roots₁ roots₂ out out₁ out₂ (p .says) (q .says),
+collect-settled p q = (
+  says-settled (p .says) (q .says),
   record {
     marks-same = p .tables .marks-are ∙ sym (q .tables .marks-are);
     lives = p .tables .live-is ∙ sym (q .tables .live-is);

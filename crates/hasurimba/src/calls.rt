@@ -2,12 +2,12 @@
 ghost use Rattle.meaning.specs.Sequences.{call};
 ghost use Rattle.meaning.specs.Calls.{putInt, putNil, copy, newRecord, newRaw, readField, writeField, readRaw, writeRaw, ask, same};
 ghost use Rattle.store.specs.Contract.{broughtOf};
-ghost use Rattle.hasurimba.specs.Kept.{TellsCall, SaysCall, SaysCollect};
-use crate::keeping::collect;
-use crate::keeping::show;
-use crate::keeping::tell;
-use crate::telling::say;
+ghost use Rattle.keeping.specs.Kept.{TellsCall, SaysCall, SaysCollect};
+use keeping::collect;
+use keeping::show;
+use keeping::tell;
 use store::Call;
+use telling::say;
 
 #[no_mangle]
 pub extern "C" fn hasurimba_put_integer(

@@ -1,6 +1,6 @@
 -- `hasurimba_check` meets its contract: the check's answer, said. Assumes nothing.
 use borrow.Author.Needs.{needs}
-use Rattle.hasurimba.proofs.Saying.{says-same}
+use Rattle.telling.proofs.Saying.{says-same}
 use Rattle.hasurimba.proofs.hasurimba_check.Statement.{statement}
 use Rattle.hasurimba.proofs.hasurimba_check.Tie as tie
 

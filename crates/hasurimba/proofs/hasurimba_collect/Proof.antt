@@ -1,6 +1,8 @@
 -- `hasurimba_collect` meets its contract: the collection's answer, said. Assumes nothing.
 use borrow.Author.Needs.{needs}
-use Rattle.hasurimba.proofs.Saying.{says-collected}
+use denote.Ref.{now}
+use Rattle.meaning.specs.Collect.{collect}
+use Rattle.telling.proofs.Saying.{says-collected}
 use Rattle.hasurimba.proofs.hasurimba_collect.Statement.{statement}
 use Rattle.hasurimba.proofs.hasurimba_collect.Tie as tie
 
@@ -27,9 +29,9 @@ same-length-5 c = search needs
 
 returns : tie.Need-returns
 returns c =
-    let s = c .before .before .before .before .before .before .before .before .before .before .before .before .before .before .before .before .before .before .before .before .before .before .before .before in
+    let a = c .before .before .before .before .before .before .before .before .before .before .before .before .before .before .before .before .before .before .before .before .before .before .before .before .args in
     let k = c .before .before .before .before .before .before .before .before .before .before .before .before .collect in
-    says-collected _ (k .result) (s .args .out .now) (c .say-collected .result) (k .last .0) (k .last .1 .1 .0) (k .last .1 .1 .1 .0) (k .last .1 .1 .1 .1 .1 .0) (k .last .1 .1 .1 .1 .1 .1 .0)
+    says-collected (collect (now (a .heap)) (a .top) (now (a .roots)) (now (a .marks)) (now (a .order)) (now (a .live)) (now (a .offsets))) (k .result) (now (a .out)) (c .say-collected .result) (k .last .0) (k .last .1 .1 .0) (k .last .1 .1 .1 .0) (k .last .1 .1 .1 .1 .1 .0) (k .last .1 .1 .1 .1 .1 .1 .0)
     (c .say-collected .last .1 .0) (k .ensures) (c .say-collected .ensures)
 
 pub hasurimba-collect-spec : {M : Type 1} → statement M

@@ -2,7 +2,7 @@
 use borrow.Author.Needs.{needs}
 use mathlib.Core.Path.{ap, _∙_}
 use Rattle.meaning.specs.Lookups.{newToOld}
-use Rattle.hasurimba.proofs.Saying.{says-same}
+use Rattle.telling.proofs.Saying.{says-same}
 use Rattle.hasurimba.proofs.hasurimba_new_to_old.Statement.{statement}
 use Rattle.hasurimba.proofs.hasurimba_new_to_old.Tie as tie
 

@@ -2,7 +2,7 @@
 use borrow.Author.Needs.{needs}
 use mathlib.Core.Path.{ap, _∙_}
 use Rattle.meaning.specs.Lookups.{oldToNew}
-use Rattle.hasurimba.proofs.Saying.{says-same}
+use Rattle.telling.proofs.Saying.{says-same}
 use Rattle.hasurimba.proofs.hasurimba_old_to_new.Statement.{statement}
 use Rattle.hasurimba.proofs.hasurimba_old_to_new.Tie as tie
 

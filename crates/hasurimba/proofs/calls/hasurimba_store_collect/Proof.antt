@@ -1,6 +1,6 @@
 -- `hasurimba_store_collect` meets its contract: the store's answer, said. Assumes nothing.
 use borrow.Author.Needs.{needs}
-use Rattle.hasurimba.proofs.KeptStore.{says-collect}
+use Rattle.keeping.proofs.KeptStore.{says-collect}
 use Rattle.hasurimba.proofs.calls.hasurimba_store_collect.Statement.{statement}
 use Rattle.hasurimba.proofs.calls.hasurimba_store_collect.Tie as tie
 

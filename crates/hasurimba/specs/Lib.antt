@@ -1,3 +1,0 @@
--- What C is handed back.
-pub mod Out
-pub mod Kept

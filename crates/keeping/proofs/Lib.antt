@@ -1,0 +1,2 @@
+-- Laws of the record that C keeps.
+pub mod KeptStore

@@ -1,0 +1,2 @@
+-- Laws of what C is told.
+pub mod Saying

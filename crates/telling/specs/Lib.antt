@@ -1,0 +1,2 @@
+-- What C is told, on paper.
+pub mod Out

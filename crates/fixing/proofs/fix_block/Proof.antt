@@ -1,14 +1,14 @@
--- `fix::fix_block` meets its contract. Assumes nothing.
+-- `fixing::fix_block` meets its contract. Assumes nothing.
 use borrow.Author.Needs.{needs}
 use Prim.Native.Nat.{_+_, _*_}
 use lib.Count.{trailingZeros}
 use Rattle.meaning.specs.Limits.{blockWords}
 use Rattle.meaning.specs.Places.{below, marked}
 use Rattle.bits.proofs.LowestBit.{lowest-less}
-use Rattle.compactor.specs.Fixable.{RefersWithin}
-use Rattle.compactor.proofs.RefsSentOn.{SendingBits, sending-start, sending-at, sending-next, sending-end}
-use Rattle.compactor.proofs.fix.fix_block.Statement.{statement}
-use Rattle.compactor.proofs.fix.fix_block.Tie as tie
+use Rattle.fixing.specs.Fixable.{RefersWithin}
+use Rattle.fixing.proofs.RefsSentOn.{SendingBits, sending-start, sending-at, sending-next, sending-end}
+use Rattle.fixing.proofs.fix_block.Statement.{statement}
+use Rattle.fixing.proofs.fix_block.Tie as tie
 
 abbrev Inv-loop : tie.InvT-loop
 Inv-loop heap₀ b word live offsets m₀ heap m = SendingBits b word (below (marked live)) heap₀ m heap

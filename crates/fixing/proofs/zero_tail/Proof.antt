@@ -1,10 +1,10 @@
--- `fix::zero_tail` meets its contract. Assumes nothing.
+-- `fixing::zero_tail` meets its contract. Assumes nothing.
 use borrow.Author.Needs.{needs}
 use Prim.Native.Nat.{_-_}
 use native.Mathlib.Omega.{arith}
-use Rattle.compactor.proofs.TailZeroed.{Zeroing, zeroing-next, zeroing-end}
-use Rattle.compactor.proofs.fix.zero_tail.Statement.{statement}
-use Rattle.compactor.proofs.fix.zero_tail.Tie as tie
+use Rattle.fixing.proofs.TailZeroed.{Zeroing, zeroing-next, zeroing-end}
+use Rattle.fixing.proofs.zero_tail.Statement.{statement}
+use Rattle.fixing.proofs.zero_tail.Tie as tie
 
 abbrev Inv-loop : tie.InvT-loop
 Inv-loop heap₀ from to i₀ heap i = Zeroing from to heap₀ i heap

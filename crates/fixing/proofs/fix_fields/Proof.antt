@@ -1,12 +1,12 @@
--- `fix::fix_fields` meets its contract. Assumes nothing.
+-- `fixing::fix_fields` meets its contract. Assumes nothing.
 use borrow.Author.Needs.{needs}
 use Prim.Native.Nat.{_-_, _*_}
 use lib.ListN.{length}
 use Rattle.meaning.specs.Limits.{blockWords}
 use Rattle.meaning.specs.Places.{below, marked}
-use Rattle.compactor.proofs.RefsSentOn.{SentOnBelow, block-fixable, block-sent, blocks-end}
-use Rattle.compactor.proofs.fix.fix_fields.Statement.{statement}
-use Rattle.compactor.proofs.fix.fix_fields.Tie as tie
+use Rattle.fixing.proofs.RefsSentOn.{SentOnBelow, block-fixable, block-sent, blocks-end}
+use Rattle.fixing.proofs.fix_fields.Statement.{statement}
+use Rattle.fixing.proofs.fix_fields.Tie as tie
 
 abbrev Inv-loop : tie.InvT-loop
 Inv-loop heap₀ refs live offsets b₀ heap b = SentOnBelow (marked refs) (below (marked live)) heap₀ (blockWords * b) heap

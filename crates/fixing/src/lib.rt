@@ -10,7 +10,7 @@ ghost use Rattle.meaning.specs.Places.{below, marked};
 ghost use Rattle.meaning.specs.Slide.{fixWord};
 ghost use Rattle.meaning.proofs.LookupsInverse.{Exact};
 ghost use Rattle.meaning.proofs.CollectedHeap.{Fixed, Zeroed};
-ghost use Rattle.compactor.specs.Fixable.{inBlock, RootsFixable, Fixable};
+ghost use Rattle.fixing.specs.Fixable.{inBlock, RootsFixable, Fixable};
 use limits::BLOCK_WORDS;
 use limits::TABLE_ENTRIES;
 use tables::new_place;

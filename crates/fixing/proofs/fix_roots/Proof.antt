@@ -1,4 +1,4 @@
--- `fix::fix_roots` meets its contract. Assumes nothing.
+-- `fixing::fix_roots` meets its contract. Assumes nothing.
 use borrow.Author.Needs.{needs}
 use mathlib.Core.Path.{ap, _∙_}
 use Prim.Native.Nat.{_-_}
@@ -6,9 +6,9 @@ use native.Mathlib.Omega.{arith}
 use lib.ListN.{length, getD}
 use Rattle.meaning.specs.Places.{below, marked}
 use Rattle.meaning.specs.Slide.{fixWord}
-use Rattle.compactor.proofs.RewrittenInPlace.{RewrittenBelow, rewritten-next, rewritten-map}
-use Rattle.compactor.proofs.fix.fix_roots.Statement.{statement}
-use Rattle.compactor.proofs.fix.fix_roots.Tie as tie
+use Rattle.fixing.proofs.RewrittenInPlace.{RewrittenBelow, rewritten-next, rewritten-map}
+use Rattle.fixing.proofs.fix_roots.Statement.{statement}
+use Rattle.fixing.proofs.fix_roots.Tie as tie
 
 abbrev Inv-loop : tie.InvT-loop
 Inv-loop roots₀ live offsets i₀ roots i = RewrittenBelow (λ k. fixWord (below (marked live)) (getD roots₀ k 0)) roots₀ i roots

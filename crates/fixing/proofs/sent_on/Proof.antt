@@ -1,4 +1,4 @@
--- `fix::sent_on` meets its contract: half of a reference is the place that it is to, and the new place is no higher. Assumes nothing.
+-- `fixing::sent_on` meets its contract: half of a reference is the place that it is to, and the new place is no higher. Assumes nothing.
 use borrow.Author.Needs.{needs}
 use mathlib.Core.Path.{_≡_, ap, _∙_}
 use Prim.Native.Nat.{_≤_}
@@ -7,8 +7,8 @@ use Rattle.meaning.specs.Values.{placeOf}
 use Rattle.meaning.specs.Places.{below, marked}
 use Rattle.meaning.proofs.Counting.{below-few}
 use Rattle.meaning.proofs.ValueWords.{place-half}
-use Rattle.compactor.proofs.fix.sent_on.Statement.{statement}
-use Rattle.compactor.proofs.fix.sent_on.Tie as tie
+use Rattle.fixing.proofs.sent_on.Statement.{statement}
+use Rattle.fixing.proofs.sent_on.Tie as tie
 
 from-bits-requires : tie.Need-from-bits-requires
 from-bits-requires c κs = search needs

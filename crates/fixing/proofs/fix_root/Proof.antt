@@ -1,11 +1,11 @@
--- `fix::fix_root` meets its contract. Assumes nothing.
+-- `fixing::fix_root` meets its contract. Assumes nothing.
 use borrow.Author.Needs.{needs}
 use mathlib.Core.Path.{_≡_, sym, ap, _∙_}
 use Prim.Native.Nat.{ℕ}
 use borrow.Author.Tests.{not-true, not-false}
 use Rattle.meaning.specs.Values.{isRef}
-use Rattle.compactor.proofs.fix.fix_root.Statement.{statement}
-use Rattle.compactor.proofs.fix.fix_root.Tie as tie
+use Rattle.fixing.proofs.fix_root.Statement.{statement}
+use Rattle.fixing.proofs.fix_root.Tie as tie
 
 from-bits-requires : tie.Need-from-bits-requires
 from-bits-requires c κs = search needs

@@ -15,8 +15,8 @@ use Rattle.meaning.specs.Places.{bitSet, marked}
 use Rattle.meaning.proofs.Deciding.{le-or-lt, eq-or-ne, true-or-false, and-both}
 use Rattle.meaning.proofs.CollectedHeap.{Fixed}
 use Rattle.bits.proofs.BitLoop.{Left, Next, left-start, left-next, left-end}
-use Rattle.compactor.specs.Fixable.{inBlock, RefersWithin, Fixable}
-use Rattle.compactor.proofs.RewrittenInPlace.{RewrittenBelow, rewritten-start, rewritten-skip, rewritten-next}
+use Rattle.fixing.specs.Fixable.{inBlock, RefersWithin, Fixable}
+use Rattle.fixing.proofs.RewrittenInPlace.{RewrittenBelow, rewritten-start, rewritten-skip, rewritten-next}
 
 -- a word, sent on by f where the test says so
 abbrev sentIf : (ℕ → ℕ) → Bool → ℕ → ℕ

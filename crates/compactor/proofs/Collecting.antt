@@ -24,11 +24,11 @@ use Rattle.meaning.proofs.LookupsInverse.{Exact, tables-exact}
 use Rattle.meaning.proofs.MarkedObjects.{marked-objects}
 use Rattle.meaning.proofs.OrderJudged.{judge-keeps}
 use Rattle.blocks.specs.Cursors.{livePlaces}
+use Rattle.fixing.specs.Fixable.{RefersWithin}
 use Rattle.compactor.specs.declared.Collected.{Collected}
 use Rattle.compactor.specs.declared.Collected.the-variants.{Refused}
 use Rattle.compactor.specs.declared.Prepared.the-variants.{Ready, Misordered}
 use Rattle.compactor.specs.Collects.{collectedTotals, Collects}
-use Rattle.compactor.specs.Fixable.{RefersWithin}
 use Rattle.compactor.specs.Phases.{Sorted, Fit, Finishable, Finished}
 use Rattle.compactor.proofs.Preparing.{fit-sizes, fit-tables, places-cut}
 

@@ -1,9 +1,6 @@
 -- What follows from the definitions, in files named after what they say.
-pub mod RewrittenInPlace
-pub mod RefsSentOn
 pub mod Settling
 pub mod Preparing
 pub mod Sliding
 pub mod Collecting
 pub mod Settled
-pub mod TailZeroed

@@ -18,7 +18,7 @@ use Rattle.meaning.proofs.Bitmaps.{marked-zeros}
 use Rattle.meaning.proofs.Bridge.{live-low}
 use Rattle.meaning.proofs.OrderJudged.{judge-refused}
 use Rattle.meaning.proofs.ChecksPassed.{checked-sound}
-use Rattle.objects.specs.Survey.{Blank}
+use Rattle.walk.specs.Survey.{Blank}
 use Rattle.objects.specs.Examined.{Examined}
 use Rattle.objects.specs.declared.Judged.{Judged}
 use Rattle.objects.specs.declared.Judged.the-variants.{Sound}

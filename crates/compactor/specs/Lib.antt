@@ -1,4 +1,3 @@
 -- What the contracts of `compactor` add to the notions of `meaning`.
-pub mod Fixable
 pub mod Phases
 pub mod Collects

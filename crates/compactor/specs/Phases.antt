@@ -14,7 +14,7 @@ use Rattle.meaning.specs.Blocks.{run, orderBreaks}
 use Rattle.meaning.specs.Collect.{judged, sizesFit, tablesFit, offsetTable}
 use Rattle.meaning.proofs.CollectedHeap.{Fixed, Zeroed}
 use Rattle.blocks.specs.Cursors.{livePlaces, Movable}
-use Rattle.compactor.specs.Fixable.{RootsFixable, Fixable}
+use Rattle.fixing.specs.Fixable.{RootsFixable, Fixable}
 use Rattle.compactor.specs.declared.Collected.{Collected}
 use Rattle.compactor.specs.declared.Collected.the-variants.{Done}
 use Rattle.compactor.specs.declared.Prepared.{Prepared}

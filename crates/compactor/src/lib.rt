@@ -9,9 +9,6 @@ ghost use Rattle.meaning.specs.Slide.{fixWord};
 ghost use Rattle.meaning.specs.Collect.{tablesFit, collect as collectOf};
 ghost use Rattle.compactor.specs.Collects.{Collects};
 ghost use Rattle.compactor.specs.Phases.{Settleable, Settled, PreparedAs, Fit, Slidable, Slid, Finishable, Finished};
-
-pub mod fix;
-
 use limits::BLOCK_WORDS;
 use limits::ORDER_ENTRIES;
 use limits::TABLE_ENTRIES;
@@ -97,10 +94,10 @@ pub fn slide(
     ensures { λ _. ⌜ Slid (now (heap .entry)) top (now (order .entry)) (now (live .entry)) (now (refs .entry)) total (now (heap .exit))
         × (now (roots .exit) ≡ map (fixWord (below (marked (now (live .entry))))) (now (roots .entry))) ⌝ }
 {
-    fix::fix_roots(roots, live, offsets);
-    fix::fix_fields(heap, refs, live, offsets);
+    fixing::fix_roots(roots, live, offsets);
+    fixing::fix_fields(heap, refs, live, offsets);
     blocks::move_blocks(heap, live, total, order);
-    fix::zero_tail(heap, total, top);
+    fixing::zero_tail(heap, total, top);
 }
 
 // The last phase: the heap slid, the marks cleared, and the numbers answered.

@@ -19,10 +19,10 @@ use Rattle.meaning.proofs.Bitmaps.{marked-zeros}
 use Rattle.meaning.proofs.Bridge.{live-low, field-low}
 use Rattle.meaning.proofs.ChecksPassed.{checked-sound}
 use Rattle.meaning.proofs.MarkedObjects.{marked-objects}
+use Rattle.walk.specs.Survey.{Noted, Walked, Blank}
+use Rattle.search.specs.Search.{firstOf, stray, HoldsRef, badField}
 use Rattle.objects.specs.declared.Judged.the-variants.{Sound, Unsound}
 use Rattle.objects.specs.declared.Judged.{Judged}
-use Rattle.objects.specs.Survey.{Noted, Walked, Blank}
-use Rattle.objects.specs.Search.{firstOf, stray, HoldsRef, badField}
 use Rattle.objects.specs.Examined.{Surveyed, Examined, judgedCounts}
 use Rattle.objects.proofs.Sizes.{Sizes, sizes}
 use Rattle.objects.proofs.Surveying.{noted-header, surveyed, field-within}

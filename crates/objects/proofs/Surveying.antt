@@ -15,7 +15,7 @@ use Rattle.meaning.specs.Slide.{headerAt, liveAt, fieldAt}
 use Rattle.meaning.specs.Words.{starts, live, field}
 use Rattle.meaning.proofs.Deciding.{le-or-lt, true-or-false}
 use Rattle.meaning.proofs.Bridge.{starts-agree, live-agree, field-agree, header-low, live-low, field-low}
-use Rattle.objects.specs.Survey.{Noted}
+use Rattle.walk.specs.Survey.{Noted}
 use Rattle.objects.specs.Examined.{Surveyed}
 
 -- two tests that agree below the top, one of which passes only there

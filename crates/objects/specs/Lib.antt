@@ -1,4 +1,2 @@
 -- What the contracts of `objects` add to the notions of `meaning`.
-pub mod Survey
-pub mod Search
 pub mod Examined

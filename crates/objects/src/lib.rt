@@ -5,12 +5,8 @@ ghost use Prim.Native.Nat.{_≤_};
 ghost use lib.ListN.{length};
 ghost use Rattle.meaning.specs.Limits.{tableEntries};
 ghost use Rattle.meaning.specs.Collect.{sizesFit, check as checkOf};
-ghost use Rattle.objects.specs.Survey.{Blank};
+ghost use Rattle.walk.specs.Survey.{Blank};
 ghost use Rattle.objects.specs.Examined.{Examined, checkedCounts, judgedCounts};
-
-pub mod search;
-pub mod walk;
-
 use limits::BLOCK_WORDS;
 use limits::HEAP_WORDS;
 use limits::ROOT_SLOTS;

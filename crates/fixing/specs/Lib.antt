@@ -1,0 +1,2 @@
+-- What the contracts of `fixing` add to the notions of `meaning`.
+pub mod Fixable

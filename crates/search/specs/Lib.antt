@@ -1,0 +1,2 @@
+-- What the contracts of `search` add to the notions of `meaning`.
+pub mod Search

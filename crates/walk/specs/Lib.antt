@@ -1,0 +1,2 @@
+-- What the contracts of `walk` add to the notions of `meaning`.
+pub mod Survey

@@ -29,7 +29,7 @@ fn answer(kept: &mut [u64; 8], heap: &mut [u32], roots: &mut [u32], wanted: Call
         top: top as u32,
         calls: kept[1],
     };
-    let answer = store::answering::answer(store, heap, roots, wanted);
+    let answer = calling::answer(store, heap, roots, wanted);
     let after = answer.store;
     keep(kept, after);
     answer.said
@@ -79,7 +79,7 @@ pub fn collect(
         top: top as u32,
         calls: kept[1],
     };
-    let answer = store::collecting::collect(store, heap, roots, marks, order, live, offsets);
+    let answer = calling::collect(store, heap, roots, marks, order, live, offsets);
     let after = answer.store;
     keep(kept, after);
     answer.said

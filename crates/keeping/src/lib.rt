@@ -36,7 +36,7 @@ fn answer(kept: &mut [u64; 8], heap: &mut [u32], roots: &mut [u32], wanted: Call
     if 4294967296 <= kept[0] {
         return Said::Refused(1, 0);
     }
-    let answer = store::answering::answer(held(kept), heap, roots, wanted);
+    let answer = calling::answer(held(kept), heap, roots, wanted);
     let after = answer.store;
     keep(kept, after);
     answer.said
@@ -81,7 +81,7 @@ pub fn collect(
     if 4294967296 <= kept[0] {
         return Said::Refused(1, 0);
     }
-    let answer = store::collecting::collect(held(kept), heap, roots, marks, order, live, offsets);
+    let answer = calling::collect(held(kept), heap, roots, marks, order, live, offsets);
     let after = answer.store;
     keep(kept, after);
     answer.said

@@ -4,8 +4,6 @@ ghost use Rattle.store.specs.Contract.{memOf, callOf, broughtOf, Leaves, Leaves
 use store::Call;
 use store::Said;
 use store::Store;
-use store::answering;
-use store::collecting;
 
 // Every call that borrows heap and slots alone: what is said, and the record, heap and slots after.
 pub fn answer(store: &mut Store, heap: &mut [u32], roots: &mut [u32], call: Call) -> Said
@@ -13,7 +11,7 @@ pub fn answer(store: &mut Store, heap: &mut [u32], roots: &mut [u32], call: Call
         (answered (memOf (now (heap .entry)) (now (roots .entry)) (now (store .entry))) (callOf call))
         (record { store = now (store .exit); said = r }) (now (heap .exit)) (now (roots .exit)) ⌝ }
 {
-    let answer = answering::answer(*store, heap, roots, call);
+    let answer = calling::answer(*store, heap, roots, call);
     *store = answer.store;
     answer.said
 }
@@ -33,7 +31,7 @@ pub fn collect(
         (record { store = now (store .exit); said = r }) (now (heap .exit)) (now (roots .exit))
         (now (marks .exit)) (now (live .exit)) (now (offsets .exit)) ⌝ }
 {
-    let collected = collecting::collect(*store, heap, roots, marks, order, live, offsets);
+    let collected = calling::collect(*store, heap, roots, marks, order, live, offsets);
     *store = collected.store;
     collected.said
 }

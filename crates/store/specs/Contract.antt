@@ -1,20 +1,16 @@
 -- The contract of every store call: the answer and all lent memory are those of the call on paper.
-use Prim.Native.Nat.{ℕ, suc, _+_}
+use Prim.Native.Nat.{ℕ}
 use mathlib.Core.Path.{_≡_}
 use mathlib.Core.List.{List}
 use Rattle.meaning.specs.Answers.{Answer as Answered, gives, refused}
-use Rattle.meaning.specs.Calls.{Call as OnPaperCall, putInt, putNil, copy, newRecord, newRaw, readField, writeField, readRaw, writeRaw, ask, same, Said as OnPaper, Brought, Did, done, integer, isNil, isRecord, isRaw, word, theSame, collected, tick, Shown, plain, object, stray, need, slot, find, fits}
-use Rattle.meaning.specs.Store.{Store as PaperStore, Mem, viewOf, shown, collects}
+use Rattle.meaning.specs.Calls.{Call as OnPaperCall, putInt, putNil, copy, newRecord, newRaw, readField, writeField, readRaw, writeRaw, ask, same, Said as OnPaper, Brought, Did, done, integer, isNil, isRecord, isRaw, word, theSame, collected, tick}
+use Rattle.meaning.specs.Store.{Store as PaperStore, Mem, collects}
 use Rattle.meaning.specs.Collect.{After, collect}
 use Rattle.meaning.specs.Sequences.{said, after}
 use Rattle.store.specs.declared.Store.{Store}
 use Rattle.store.specs.declared.Answer.{Answer}
 use Rattle.store.specs.declared.Call.{Call}
 use Rattle.store.specs.declared.Call.the-variants.{PutInt, PutNil, Copy, NewRecord, NewRaw, ReadField, WriteField, ReadRaw, WriteRaw, Ask, Same as SameCall}
-use Rattle.store.specs.declared.fields.Seen.{Seen}
-use Rattle.store.specs.declared.fields.Seen.the-variants.{Number, Empty, Object, Stray}
-use Rattle.store.specs.declared.fields.Found.{Found}
-use Rattle.store.specs.declared.fields.Found.the-variants.{At, No}
 use Rattle.store.specs.declared.Said.{Said}
 use Rattle.store.specs.declared.Said.the-variants.{Done, Integer, Nil, Record, Raw, Word, Same, Collected, Refused}
 
@@ -66,37 +62,6 @@ tickedOf s = record { top = s .top; calls = tick (s .calls) }
 
 abbrev pub toldOf : Store → Said → Answer
 toldOf s a = record { store = tickedOf s; said = a }
-
--- what a slot's word shows, on paper
-abbrev pub seenOf : Seen → Shown
-seenOf (Number z) = plain (integer z)
-seenOf Empty = plain isNil
-seenOf (Object p k n) = object p k n
-seenOf Stray = stray
-
--- the refusal where a slot shows no object
-abbrev pub noObject : Shown → ℕ
-noObject (plain a) = 8
-noObject (object p k n) = 8
-noObject stray = 13
-
--- the place that is found, or the refusal
-abbrev pub foundOf : Found → Answered ℕ
-foundOf (At p) = gives p
-foundOf (No n p) = refused n p
-
--- the guards of a call about field f of the object of this kind in slot o, and slot t
-unfoldable pub finding : Mem → ℕ → ℕ → ℕ → ℕ → Answered ℕ
-finding m kind o f t = need (fits (viewOf m)) 1 0 (slot (viewOf m) o (slot (viewOf m) t (find kind o f (shown m o))))
-
--- the word of field f, where its object is found
-abbrev pub fieldOf : ℕ → Answered ℕ → Answered ℕ
-fieldOf f (gives p) = gives (suc p + f)
-fieldOf f (refused n p) = refused n p
-
--- what is found is that word, or the first refusal of those guards
-pub record Finds (m : Mem) (kind o f t : ℕ) (r : Found) : Type 0 where
-  pub found-is : foundOf r ≡ fieldOf f (finding m kind o f t)
 
 -- the record after an accepted collection: its top is the new one
 abbrev pub shrunkOf : Store → ℕ → Store

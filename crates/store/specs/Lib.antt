@@ -1,3 +1,2 @@
--- What the contracts of `store` add to the notions of `meaning`.
+-- What the contracts of `store` and of the calls add to the notions of `meaning`.
 pub mod Contract
-pub mod Births

@@ -1,15 +1,8 @@
-// The store calls: each on the small record and the lent heap and slots, answered as on paper.
+// What the store calls share: the small record, the calls and what they say, refusal 1, and how a call is refused or answered.
 ghost use mathlib.Core.Path.{_≡_};
 ghost use Rattle.meaning.specs.Calls.{fits as fitsOf};
 ghost use Rattle.meaning.specs.Store.{viewOf};
 ghost use Rattle.store.specs.Contract.{memOf, refusedOf, toldOf};
-
-pub mod answering;
-pub mod births;
-pub mod collecting;
-pub mod fields;
-pub mod slots;
-
 use limits::HEAP_WORDS;
 use limits::ROOT_SLOTS;
 
@@ -53,14 +46,14 @@ pub enum Call {
 }
 
 // Refusal 1: whether heap, top and slots fit.
-fn fits(store: Store, heap: &[u32], roots: &[u32]) -> bool
+pub fn fits(store: Store, heap: &[u32], roots: &[u32]) -> bool
     ensures { λ r. ⌜ r ≡ fitsOf (viewOf (memOf (now (heap .entry)) (now (roots .entry)) store)) ⌝ }
 {
     (heap.len() <= HEAP_WORDS) & ((store.top as usize <= heap.len()) & (roots.len() <= ROOT_SLOTS))
 }
 
 // A refusal leaves the record as found.
-fn refused(store: Store, number: u32, place: u32) -> Answer
+pub fn refused(store: Store, number: u32, place: u32) -> Answer
     ensures { λ r. ⌜ r ≡ refusedOf store number place ⌝ }
 {
     Answer {
@@ -70,7 +63,7 @@ fn refused(store: Store, number: u32, place: u32) -> Answer
 }
 
 // What an accepted call says; the count wraps on purpose.
-fn told(store: Store, said: Said) -> Answer
+pub fn told(store: Store, said: Said) -> Answer
     ensures { λ r. ⌜ r ≡ toldOf store said ⌝ }
 {
     Answer {

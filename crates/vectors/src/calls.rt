@@ -108,7 +108,7 @@ fn call_step(case: &[u8], passed: Passed, heap: &mut [u32], roots: &mut [u32]) -
         case::word(case, at + 3),
     );
     let record = passed.store;
-    let answer = store::answering::answer(record, heap, roots, call);
+    let answer = calling::answer(record, heap, roots, call);
     let record = answer.store;
     let said = answer.said;
     let digest = after(passed.digest, answer, heap, roots);
@@ -132,7 +132,7 @@ fn collect_with(
     offsets: &mut [u32],
 ) -> Passed {
     let record = passed.store;
-    let answer = store::collecting::collect(record, heap, roots, marks, order, live, offsets);
+    let answer = calling::collect(record, heap, roots, marks, order, live, offsets);
     let record = answer.store;
     let said = answer.said;
     let left = after(passed.digest, answer, heap, roots);

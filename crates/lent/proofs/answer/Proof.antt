@@ -1,4 +1,4 @@
--- `answer` meets its contract: a walk of its MIR, by hand. The record is copied out of its borrow, which stays open over the call of `store::answering::answer`; the callee is handed every other parameter for good; the answer's record is put back, the borrow closed at it, and what the answer says is returned.
+-- `answer` meets its contract: a walk of its MIR, by hand. The record is copied out of its borrow, which stays open over the call of `calling::answer`; the callee is handed every other parameter for good; the answer's record is put back, the borrow closed at it, and what the answer says is returned.
 -- Locals: 0 what is said, 1 the borrow, 2 heap, 3 roots, 4 call, 5 the answer, 6 the record's copy, then for each `&mut` slice a pointer (7, 9) and the slice that is passed on. Local i is the entry i of the context, but for the call's operands, which are read with what the callee asks in front.
 -- Assumes nothing.
 use mathlib.Core.Path.{refl}
@@ -34,10 +34,10 @@ use Rattle.store.proofs.Store as S
 use Rattle.store.proofs.Store.Laws as S′
 use Rattle.store.proofs.Call as C
 use Rattle.store.proofs.Call.Laws as C′
-use Rattle.store.proofs.answering.answer as callee
-use Rattle.store.proofs.answering.answer.Symbol as callee-def
-use Rattle.store.proofs.answering.answer.Symbol.{name as #callee}
-use Rattle.store.proofs.answering.answer.Met as callee-thm
+use Rattle.calling.proofs.answer as callee
+use Rattle.calling.proofs.answer.Symbol as callee-def
+use Rattle.calling.proofs.answer.Symbol.{name as #callee}
+use Rattle.calling.proofs.answer.Met as callee-thm
 use Rattle.lent.proofs.Frames.{starts, freed, behind, again, arg}
 use Rattle.lent.proofs.Lending.{storeVal, sliced, opened, shut, passes, Fact, borrowed, ends, Walk, meets}
 use Rattle.lent.proofs.answer.Key.{name as #own}
@@ -92,4 +92,4 @@ answer-spec 𝓤 H 𝓜 𝓖 𝓡 =
     let W : Given 𝓤 H (𝓖 .A) = givenOf 𝓤 H 𝓜 𝓖 in
     entered 𝓤 H (tripleOf 𝓤 H (𝓖 .A) own.signature (own.spec 𝓤 H (𝓖 .A) (𝓜 .mem) (𝓡 .run))) (tables 𝓤 H 𝓜 𝓡 code.env .C) (tables 𝓤 H 𝓜 𝓡 code.env .Λ) #own code.function (code.unfolded 𝓤 H 𝓜 𝓡)
     (meets 2 others 𝓤 H (𝓖 .A) W promised 𝓣 code.function spelled (λ κs. (mut-slice-tells (named 1) (κs .1 .0) u32, (mut-slice-tells (named 2) (κs .1 .1 .0) u32, (EL.tells C.the-type C′.the-laws, tt))))
-    (walk 𝓤 H (𝓖 .A) W (𝓜 .mem) (𝓡 .run) 𝓣 (cited 𝓤 H (Callee 𝓤 H (𝓖 .A) W (𝓜 .mem) (𝓡 .run) 𝓣) 𝓜 𝓡 code.env #callee callee-def.routine code.calls-store·answering·answer (callee-thm.met 𝓤 H 𝓜 𝓖 𝓡))))
+    (walk 𝓤 H (𝓖 .A) W (𝓜 .mem) (𝓡 .run) 𝓣 (cited 𝓤 H (Callee 𝓤 H (𝓖 .A) W (𝓜 .mem) (𝓡 .run) 𝓣) 𝓜 𝓡 code.env #callee callee-def.routine code.calls-calling·answer (callee-thm.met 𝓤 H 𝓜 𝓖 𝓡))))

@@ -1,4 +1,4 @@
--- `collect` meets its contract: a walk of its MIR, by hand. The record is copied out of its borrow, which stays open over the call of `store::collecting::collect`; the callee is handed every other parameter for good; the answer's record is put back, the borrow closed at it, and what the answer says is returned.
+-- `collect` meets its contract: a walk of its MIR, by hand. The record is copied out of its borrow, which stays open over the call of `calling::collect`; the callee is handed every other parameter for good; the answer's record is put back, the borrow closed at it, and what the answer says is returned.
 -- Locals: 0 what is said, 1 the borrow, 2 heap, 3 roots, 4 marks, 5 order, 6 live, 7 offsets, 8 the answer, 9 the record's copy, then for each `&mut` slice a pointer (10, 12, 14, 16, 18) and the slice that is passed on. Local i is the entry i of the context, but for the call's operands, which are read with what the callee asks in front.
 -- Assumes nothing.
 use mathlib.Core.Path.{refl}
@@ -30,10 +30,10 @@ use denote.Triple.Table.{entered, cited}
 use Rattle.store.specs.Contract.{memOf, broughtOf, LeavesCollected}
 use Rattle.store.proofs.Store as S
 use Rattle.store.proofs.Store.Laws as S′
-use Rattle.store.proofs.collecting.collect as callee
-use Rattle.store.proofs.collecting.collect.Symbol as callee-def
-use Rattle.store.proofs.collecting.collect.Symbol.{name as #callee}
-use Rattle.store.proofs.collecting.collect.Met as callee-thm
+use Rattle.calling.proofs.collect as callee
+use Rattle.calling.proofs.collect.Symbol as callee-def
+use Rattle.calling.proofs.collect.Symbol.{name as #callee}
+use Rattle.calling.proofs.collect.Met as callee-thm
 use Rattle.lent.proofs.Frames.{starts, freed, behind, again, arg}
 use Rattle.lent.proofs.Lending.{storeVal, sliced, opened, shut, passes, Fact, borrowed, ends, Walk, meets}
 use Rattle.lent.proofs.collect.Key.{name as #own}
@@ -91,4 +91,4 @@ collect-spec 𝓤 H 𝓜 𝓖 𝓡 =
     let W : Given 𝓤 H (𝓖 .A) = givenOf 𝓤 H 𝓜 𝓖 in
     entered 𝓤 H (tripleOf 𝓤 H (𝓖 .A) own.signature (own.spec 𝓤 H (𝓖 .A) (𝓜 .mem) (𝓡 .run))) (tables 𝓤 H 𝓜 𝓡 code.env .C) (tables 𝓤 H 𝓜 𝓡 code.env .Λ) #own code.function (code.unfolded 𝓤 H 𝓜 𝓡)
     (meets 6 others 𝓤 H (𝓖 .A) W promised 𝓣 code.function spelled (λ κs. (mut-slice-tells (named 1) (κs .1 .0) u32, (mut-slice-tells (named 2) (κs .1 .1 .0) u32, (mut-slice-tells (named 3) (κs .1 .1 .1 .0) u64, (shr-slice-tells (named 4) (κs .1 .1 .1 .1 .0) u32, (mut-slice-tells (named 5) (κs .1 .1 .1 .1 .1 .0) u64, (mut-slice-tells (named 6) (κs .1 .1 .1 .1 .1 .1 .0) u32, tt)))))))
-    (walk 𝓤 H (𝓖 .A) W (𝓜 .mem) (𝓡 .run) 𝓣 (cited 𝓤 H (Callee 𝓤 H (𝓖 .A) W (𝓜 .mem) (𝓡 .run) 𝓣) 𝓜 𝓡 code.env #callee callee-def.routine code.calls-store·collecting·collect (callee-thm.met 𝓤 H 𝓜 𝓖 𝓡))))
+    (walk 𝓤 H (𝓖 .A) W (𝓜 .mem) (𝓡 .run) 𝓣 (cited 𝓤 H (Callee 𝓤 H (𝓖 .A) W (𝓜 .mem) (𝓡 .run) 𝓣) 𝓜 𝓡 code.env #callee callee-def.routine code.calls-calling·collect (callee-thm.met 𝓤 H 𝓜 𝓖 𝓡))))

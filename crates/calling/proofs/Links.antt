@@ -8,7 +8,7 @@ use Rattle.store.specs.declared.Store.{Store}
 use Rattle.store.specs.declared.Answer.{Answer}
 use Rattle.store.specs.declared.Call.{Call}
 use Rattle.store.specs.declared.Call.the-variants.{PutInt, PutNil, Copy, NewRecord, NewRaw, ReadField, WriteField, ReadRaw, WriteRaw, Ask, Same}
-use Rattle.calling.proofs.Sequence.{Lent, Left, Answers, leaves-link}
+use Rattle.calling.proofs.Sequence.{Lent, Answers, leaves-link}
 use Rattle.slots.proofs.put_int.Reads as put-int
 use Rattle.slots.proofs.put_nil.Reads as put-nil
 use Rattle.slots.proofs.copy.Reads as copy

@@ -1,7 +1,7 @@
 -- The promises of the functions for C settle the number and all lent memory: two ends of one call are the same. A refused store call
 -- leaves the record as found, and any leaves its words from 2 on. Assumes nothing.
 use Prim.Native.Nat.{ℕ, _+_, _*_, _≤_}
-use mathlib.Core.Path.{_≡_, refl, sym, _∙_}
+use mathlib.Core.Path.{_≡_, sym, _∙_}
 use mathlib.Core.List.{List}
 use lib.ListN.{getD, set}
 use lib.Seq.{getD-set-other}

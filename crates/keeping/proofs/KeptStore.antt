@@ -19,7 +19,7 @@ use Rattle.store.specs.declared.Answer.{Answer as StoreAnswer}
 use Rattle.store.specs.declared.Said.{Said as SaidByStore}
 use Rattle.store.specs.declared.Said.the-variants.{Refused}
 use Rattle.telling.specs.Out.{code, saidWords, Says}
-use Rattle.keeping.specs.Kept.{memory, storeIn, withStore, Leaves, TellsCall, SaysCall, LeavesTables, SaysCollect, Gets, GetsCollected}
+use Rattle.keeping.specs.Kept.{memory, storeIn, withStore, Leaves, TellsCall, SaysCall, SaysCollect, Gets, GetsCollected}
 use Rattle.telling.proofs.Saying.{says-same}
 
 -- ## A top past 32 bits

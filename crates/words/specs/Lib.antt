@@ -1,1 +1,2 @@
+-- What the contracts of `words` add to the notions of `meaning`.
 pub mod Paper

@@ -1,3 +1,4 @@
+// The value word: a small integer, nil or a reference in 32 bits. It is made and read here alone.
 ghost use mathlib.Core.Path.{_≡_};
 ghost use mathlib.Core.Bool.{cond};
 ghost use Prim.Native.Nat.{_/_};

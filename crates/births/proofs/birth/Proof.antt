@@ -1,3 +1,4 @@
+-- `birth` meets its contract: what is refused, then header, payload and reference. Assumes nothing.
 use Prim.Native.Nat.{suc, _+_, _*_, _≤_}
 use mathlib.Core.Path.{_≡_, ap, sym, _∙_}
 use mathlib.Core.Bool.{true}
@@ -16,12 +17,6 @@ use Rattle.births.proofs.Put.{put-head}
 use borrow.Author.Needs.{needs}
 use Rattle.births.proofs.birth.Statement.{statement}
 use Rattle.births.proofs.birth.Tie as tie
-use Rattle.births.proofs.birth.Reads as reads
-use Rattle.births.proofs.birth.Lts as lts
-use Rattle.births.proofs.fill.Reads as fill-reads
-use Rattle.store.proofs.fits.Reads as fits-reads
-use Rattle.store.proofs.refused.Reads as refused-reads
-use Rattle.store.proofs.told.Reads as told-reads
 
 ok : (c : tie.Else1) → let a = c .before .before .before .before .before .before .args in fits (viewOf (memOf (now (a .heap)) (now (a .roots)) (a .store))) ≡ true
 ok c = sym (c .before .fits2 .ensures) ∙ not-false (c .before .fits2 .result) (c .if1 .left)
@@ -29,57 +24,44 @@ ok c = sym (c .before .fits2 .ensures) ∙ not-false (c .before .fits2 .result) 
 top-in : (c : tie.Else1) → let a = c .before .before .before .before .before .before .args in (a .store .top ≤ length (now (a .heap))) × (length (now (a .heap)) ≤ heapWords)
 top-in c = let a = c .before .before .before .before .before .before .args in fits-top (memOf (now (a .heap)) (now (a .roots)) (a .store)) (ok c)
 
--- src/lib.rt:44:9
 fits-requires : tie.Need-fits-requires
 fits-requires c κs = search needs
 
--- src/lib.rt:45:9
 refused-requires : tie.Need-refused-requires
 refused-requires c κs = search needs
 
--- src/lib.rt:45:9
 same-length : tie.Need-same-length
 same-length c = search needs
 
--- src/lib.rt:45:9
 same-length-2 : tie.Need-same-length-2
 same-length-2 c = search needs
 
--- src/lib.rt:45:9
 returns : tie.Need-returns
 unfolding born
 returns c = leaves-refused (rw (← c .before .before .fits2 .ensures, not-true (c .before .before .fits2 .result) (c .before .if1 .taken))) (c .refused .ensures)
 
--- src/lib.rt:48:9
 refused-requires-2 : tie.Need-refused-requires-2
 refused-requires-2 c κs = search needs
 
--- src/lib.rt:48:9
 same-length-3 : tie.Need-same-length-3
 same-length-3 c = search needs
 
--- src/lib.rt:48:9
 same-length-4 : tie.Need-same-length-4
 same-length-4 c = search needs
 
--- src/lib.rt:48:9
 returns-2 : tie.Need-returns-2
 unfolding born
 returns-2 c = leaves-refused (rw (ok (c .before .before), le-ltb _ _ (c .before .if2 .taken))) (c .refused2 .ensures)
 
--- src/lib.rt:51:9
 refused-requires-3 : tie.Need-refused-requires-3
 refused-requires-3 c κs = search needs
 
--- src/lib.rt:51:9
 same-length-5 : tie.Need-same-length-5
 same-length-5 c = search needs
 
--- src/lib.rt:51:9
 same-length-6 : tie.Need-same-length-6
 same-length-6 c = search needs
 
--- src/lib.rt:51:9
 returns-3 : tie.Need-returns-3
 unfolding born
 returns-3 c =
@@ -87,27 +69,21 @@ returns-3 c =
     let a = e1 .before .before .before .before .before .before .args in
     leaves-refused (rw (ok e1, lt-ltb _ _ (c .before .before .if2 .left), lt-leb (a .k) payloadWords (omega arith))) (c .refused3 .ensures)
 
--- src/lib.rt:53:15
 cast-top : tie.Need-cast-top
 cast-top c = search needs
 
--- src/lib.rt:54:8
 sub-if4 : tie.Need-sub-if4
 sub-if4 c = let x = top-in (c .before .before .before) in omega arith
 
--- src/lib.rt:55:9
 refused-requires-4 : tie.Need-refused-requires-4
 refused-requires-4 c κs = search needs
 
--- src/lib.rt:55:9
 same-length-7 : tie.Need-same-length-7
 same-length-7 c = search needs
 
--- src/lib.rt:55:9
 same-length-8 : tie.Need-same-length-8
 same-length-8 c = search needs
 
--- src/lib.rt:55:9
 returns-4 : tie.Need-returns-4
 unfolding born
 returns-4 c =
@@ -119,67 +95,51 @@ returns-4 c =
     (rw (ok e1, lt-ltb _ _ (e3 .before .if2 .left), le-leb (a .k) payloadWords (omega arith), lt-leb (a .store .top + 1 + a .k) (length (now (a .heap))) (omega arith)))
     (c .refused4 .ensures)
 
--- src/lib.rt:57:17
 mul-heap : tie.Need-mul-heap
 mul-heap c = search needs
 
--- src/lib.rt:57:17
 add-heap : tie.Need-add-heap
 add-heap c = search needs
 
--- src/lib.rt:57:5
 mul-heap-2 : tie.Need-mul-heap-2
 mul-heap-2 c = search needs
 
--- src/lib.rt:57:5
 slice-write-heap : tie.Need-slice-write-heap
 slice-write-heap c = search needs
 
--- src/lib.rt:58:16
 add-fill : tie.Need-add-fill
 add-fill c = search needs
 
--- src/lib.rt:58:5
 fill-requires : tie.Need-fill-requires
 fill-requires c κs = let x = top-in (c .before .before .before .before .before) in simp length-set (omega arith)
 
--- src/lib.rt:59:28
 mul-roots : tie.Need-mul-roots
 mul-roots c = let x = top-in (c .before .before .before .before .before .before .before .before .before) in omega arith
 
--- src/lib.rt:59:28
 add-roots : tie.Need-add-roots
 add-roots c = let x = top-in (c .before .before .before .before .before .before .before .before .before) in omega arith
 
--- src/lib.rt:59:5
 mul-roots-2 : tie.Need-mul-roots-2
 mul-roots-2 c = search needs
 
--- src/lib.rt:59:5
 slice-write-roots : tie.Need-slice-write-roots
 slice-write-roots c = search needs
 
--- src/lib.rt:62:18
 add-t19 : tie.Need-add-t19
 add-t19 c = let x = top-in (c .before .before .before .before .before .before .before .before .before .before) in omega arith
 
--- src/lib.rt:62:18
 add-t18 : tie.Need-add-t18
 add-t18 c = let x = top-in (c .before .before .before .before .before .before .before .before .before .before) in omega arith
 
--- src/lib.rt:60:5
 told-requires : tie.Need-told-requires
 told-requires c κs = search needs
 
--- src/lib.rt:31:1
 same-length-9 : tie.Need-same-length-9
 same-length-9 c = c .before .before .before .before .before .fill .kept .0 ∙ simp length-set
 
--- src/lib.rt:31:1
 same-length-10 : tie.Need-same-length-10
 same-length-10 c = search needs
 
--- src/lib.rt:31:1
 returns-5 : tie.Need-returns-5
 unfolding born
 returns-5 c =

@@ -1,3 +1,4 @@
+-- `fill` meets its contract: one word after the other, those before it as put. Assumes nothing.
 use Prim.Native.Nat.{ℕ, _+_, _-_, _≤_}
 use native.Mathlib.Omega.{arith}
 use native.Mathlib.Numerals.{add-one}
@@ -9,8 +10,6 @@ use Rattle.births.specs.Births.{put}
 use Rattle.births.proofs.Put.{put-none, put-more}
 use Rattle.births.proofs.fill.Statement.{statement}
 use Rattle.births.proofs.fill.Tie as tie
-use Rattle.births.proofs.fill.Reads as reads
-use Rattle.births.proofs.fill.Lts as lts
 
 abbrev Inv-loop : tie.InvT-loop
 Inv-loop heap₀ at k w i₀ heap i = (i ≤ k) × (heap ≡ put heap₀ at (replicate i w)) × (length heap ≡ length heap₀)
@@ -18,31 +17,24 @@ Inv-loop heap₀ at k w i₀ heap i = (i ≤ k) × (heap ≡ put heap₀ at (rep
 abbrev μ-loop : tie.MeasureT-loop
 μ-loop heap₀ at k w i₀ heap i = k - i
 
--- src/lib.rt:24:5
 loop-holds : tie.Need-loop-holds Inv-loop μ-loop
 loop-holds c = (omega arith, put-none (now (c .args .heap)) (c .args .at) (c .args .w), refl)
 
--- src/lib.rt:25:14
 add-heap : tie.Need-add-heap Inv-loop μ-loop
 add-heap c = omega arith
 
--- src/lib.rt:25:9
 mul-heap : tie.Need-mul-heap Inv-loop μ-loop
 mul-heap c = omega arith
 
--- src/lib.rt:25:9
 slice-write-heap : tie.Need-slice-write-heap Inv-loop μ-loop
 slice-write-heap c = omega arith
 
--- src/lib.rt:26:9
 add-i : tie.Need-add-i Inv-loop μ-loop
 add-i c = omega arith
 
--- src/lib.rt:24:5
 loop-less : tie.Need-loop-less Inv-loop μ-loop
 loop-less c = omega arith
 
--- src/lib.rt:24:5
 loop-again : tie.Need-loop-again Inv-loop μ-loop
 loop-again c =
     let l = c .before .loop in
@@ -52,11 +44,9 @@ loop-again c =
       simp length-set (omega arith),
     )
 
--- src/lib.rt:19:1
 same-length : tie.Need-same-length Inv-loop μ-loop
 same-length c = omega arith
 
--- src/lib.rt:19:1
 returns : tie.Need-returns Inv-loop μ-loop
 returns c = let e : c .before .loop .i ≡ c .before .before .args .k = omega arith in c .before .loop .inv .1 ∙ rw e
 

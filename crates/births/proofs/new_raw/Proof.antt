@@ -1,24 +1,18 @@
+-- `new_raw` meets its contract: a raw object's birth. Assumes nothing.
 use Rattle.births.proofs.BirthsAre.{leaves-raw}
 use borrow.Author.Needs.{needs}
 use Rattle.births.proofs.new_raw.Statement.{statement}
 use Rattle.births.proofs.new_raw.Tie as tie
-use Rattle.births.proofs.new_raw.Reads as reads
-use Rattle.births.proofs.new_raw.Lts as lts
-use Rattle.births.proofs.birth.Reads as birth-reads
 
--- src/lib.rt:82:5
 birth-requires : tie.Need-birth-requires
 birth-requires c κs = search needs
 
--- src/lib.rt:78:1
 same-length : tie.Need-same-length
 same-length c = search needs
 
--- src/lib.rt:78:1
 same-length-2 : tie.Need-same-length-2
 same-length-2 c = search needs
 
--- src/lib.rt:78:1
 returns : tie.Need-returns
 returns c = let a = c .before .before .before .before .before .before .before .before .before .args in leaves-raw (a .slot) (a .k) (c .before .before .before .before .birth .ensures)
 

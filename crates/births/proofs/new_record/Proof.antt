@@ -1,29 +1,21 @@
+-- `new_record` meets its contract: a record's birth. Assumes nothing.
 use Rattle.births.proofs.BirthsAre.{leaves-record}
 use borrow.Author.Needs.{needs}
 use Rattle.births.proofs.new_record.Statement.{statement}
 use Rattle.births.proofs.new_record.Tie as tie
-use Rattle.births.proofs.new_record.Reads as reads
-use Rattle.births.proofs.new_record.Lts as lts
-use Rattle.births.proofs.birth.Reads as birth-reads
-use Rattle.words.proofs.Word.bits.Reads as bits-reads
 
--- src/lib.rt:74:43
 bits-requires : tie.Need-bits-requires
 bits-requires c κs = search needs
 
--- src/lib.rt:74:5
 birth-requires : tie.Need-birth-requires
 birth-requires c κs = search needs
 
--- src/lib.rt:70:1
 same-length : tie.Need-same-length
 same-length c = search needs
 
--- src/lib.rt:70:1
 same-length-2 : tie.Need-same-length-2
 same-length-2 c = search needs
 
--- src/lib.rt:70:1
 returns : tie.Need-returns
 returns c = let a = c .before .before .before .before .before .before .before .before .before .before .args in leaves-record (a .slot) (a .k) (c .before .before .before .before .before .bits .ensures) (c .before .before .before .before .birth .ensures)
 

@@ -11,113 +11,77 @@ use Rattle.store.specs.Contract.{callOf, Leaves}
 use borrow.Author.Needs.{needs}
 use Rattle.calling.proofs.answer.Statement.{statement}
 use Rattle.calling.proofs.answer.Tie as tie
-use Rattle.calling.proofs.answer.Reads as reads
-use Rattle.calling.proofs.answer.Lts as lts
-use Rattle.births.proofs.new_raw.Reads as new-raw-reads
-use Rattle.births.proofs.new_record.Reads as new-record-reads
-use Rattle.fields.proofs.ask.Reads as ask-reads
-use Rattle.fields.proofs.read_field.Reads as read-field-reads
-use Rattle.fields.proofs.read_raw.Reads as read-raw-reads
-use Rattle.fields.proofs.write_field.Reads as write-field-reads
-use Rattle.fields.proofs.write_raw.Reads as write-raw-reads
-use Rattle.slots.proofs.copy.Reads as copy-reads
-use Rattle.slots.proofs.put_int.Reads as put-int-reads
-use Rattle.slots.proofs.put_nil.Reads as put-nil-reads
-use Rattle.slots.proofs.same.Reads as same-reads
 
 -- what a call leaves, a call equal to it leaves
 leaves-named : {m : Mem} {k j : Call} {r : Answer} {heap slots : List ℕ} → k ≡ j → Leaves m (answered m (callOf j)) r heap slots → Leaves m (answered m (callOf k)) r heap slots
 leaves-named e l = rw e l
 
--- src/lib.rt:18:22
 enum-known-call : tie.Need-enum-known-call
 enum-known-call c = search needs
 
--- src/lib.rt:18:38
 put-int-requires : tie.Need-put-int-requires
 put-int-requires c κs = search needs
 
--- src/lib.rt:19:22
 enum-known-call-2 : tie.Need-enum-known-call-2
 enum-known-call-2 c = search needs
 
--- src/lib.rt:19:31
 put-nil-requires : tie.Need-put-nil-requires
 put-nil-requires c κs = search needs
 
--- src/lib.rt:20:20
 enum-known-call-3 : tie.Need-enum-known-call-3
 enum-known-call-3 c = search needs
 
--- src/lib.rt:20:39
 copy-requires : tie.Need-copy-requires
 copy-requires c κs = search needs
 
--- src/lib.rt:21:25
 enum-known-call-4 : tie.Need-enum-known-call-4
 enum-known-call-4 c = search needs
 
--- src/lib.rt:21:37
 new-record-requires : tie.Need-new-record-requires
 new-record-requires c κs = search needs
 
--- src/lib.rt:22:22
 enum-known-call-5 : tie.Need-enum-known-call-5
 enum-known-call-5 c = search needs
 
--- src/lib.rt:22:34
 new-raw-requires : tie.Need-new-raw-requires
 new-raw-requires c κs = search needs
 
--- src/lib.rt:23:25
 enum-known-call-6 : tie.Need-enum-known-call-6
 enum-known-call-6 c = search needs
 
--- src/lib.rt:23:51
 read-field-requires : tie.Need-read-field-requires
 read-field-requires c κs = search needs
 
--- src/lib.rt:24:26
 enum-known-call-7 : tie.Need-enum-known-call-7
 enum-known-call-7 c = search needs
 
--- src/lib.rt:24:52
 write-field-requires : tie.Need-write-field-requires
 write-field-requires c κs = search needs
 
--- src/lib.rt:25:23
 enum-known-call-8 : tie.Need-enum-known-call-8
 enum-known-call-8 c = search needs
 
--- src/lib.rt:25:41
 read-raw-requires : tie.Need-read-raw-requires
 read-raw-requires c κs = search needs
 
--- src/lib.rt:26:24
 enum-known-call-9 : tie.Need-enum-known-call-9
 enum-known-call-9 c = search needs
 
--- src/lib.rt:26:48
 write-raw-requires : tie.Need-write-raw-requires
 write-raw-requires c κs = search needs
 
--- src/lib.rt:27:19
 enum-known-call-10 : tie.Need-enum-known-call-10
 enum-known-call-10 c = search needs
 
--- src/lib.rt:27:28
 ask-requires : tie.Need-ask-requires
 ask-requires c κs = search needs
 
--- src/lib.rt:28:20
 enum-known-call-11 : tie.Need-enum-known-call-11
 enum-known-call-11 c = search needs
 
--- src/lib.rt:28:38
 same-requires : tie.Need-same-requires
 same-requires c κs = search needs
 
--- src/lib.rt:13:1, once for each arm
 same-length : tie.Need-same-length
 same-length c = search needs
 

@@ -4,11 +4,6 @@ use Rattle.calling.proofs.CollectLeaves.{leaves-uncollected, leaves-col
 use borrow.Author.Needs.{needs}
 use Rattle.calling.proofs.collect.Statement.{statement}
 use Rattle.calling.proofs.collect.Tie as tie
-use Rattle.calling.proofs.collect.Reads as reads
-use Rattle.calling.proofs.collect.Lts as lts
-use Rattle.compactor.proofs.collect.Reads as collect-reads
-use Rattle.calling.proofs.shrunk.Reads as shrunk-reads
-use Rattle.store.proofs.refused.Reads as refused-reads
 
 -- the call of the collection, and the record that was given
 abbrev called : tie.After-slice-known10 → tie.After-collect
@@ -17,73 +12,56 @@ called k = k .before .before .before .before .before .before .before .before .be
 abbrev given : tie.After-collect → Store
 given k = k .before .before .before .before .before .before .before .before .before .before .before .before .args .store
 
--- src/lib.rt:56:9
 collect-requires : tie.Need-collect-requires
 collect-requires c κs = search needs
 
--- src/lib.rt:58:28
 enum-known-collected : tie.Need-enum-known-collected
 enum-known-collected c = search needs
 
--- src/lib.rt:58:46
 refused-requires : tie.Need-refused-requires
 refused-requires c κs = search needs
 
--- src/lib.rt:59:25
 enum-known-collected-2 : tie.Need-enum-known-collected-2
 enum-known-collected-2 c = search needs
 
--- src/lib.rt:60:20
 shrunk-requires : tie.Need-shrunk-requires
 shrunk-requires c κs = search needs
 
--- src/lib.rt:43:1
 same-length : tie.Need-same-length
 same-length c = search needs
 
--- src/lib.rt:43:1
 same-length-2 : tie.Need-same-length-2
 same-length-2 c = search needs
 
--- src/lib.rt:43:1
 same-length-3 : tie.Need-same-length-3
 same-length-3 c = search needs
 
--- src/lib.rt:43:1
 same-length-4 : tie.Need-same-length-4
 same-length-4 c = search needs
 
--- src/lib.rt:43:1
 same-length-5 : tie.Need-same-length-5
 same-length-5 c = search needs
 
--- src/lib.rt:43:1
 returns : tie.Need-returns
 returns c =
     let k = called (c .before .before .before .before) in
     leaves-uncollected {s = given k} (c .before .before .collected .given .1) (k .collect .ensures) (c .refused .ensures)
 
--- src/lib.rt:43:1
 same-length-6 : tie.Need-same-length-6
 same-length-6 c = search needs
 
--- src/lib.rt:43:1
 same-length-7 : tie.Need-same-length-7
 same-length-7 c = search needs
 
--- src/lib.rt:43:1
 same-length-8 : tie.Need-same-length-8
 same-length-8 c = search needs
 
--- src/lib.rt:43:1
 same-length-9 : tie.Need-same-length-9
 same-length-9 c = search needs
 
--- src/lib.rt:43:1
 same-length-10 : tie.Need-same-length-10
 same-length-10 c = search needs
 
--- src/lib.rt:43:1
 returns-2 : tie.Need-returns-2
 returns-2 c =
     let k = called (c .before .before .before .before) in

@@ -1,3 +1,4 @@
+-- `ask` meets its contract: refused where the slot shows no object, else said. Assumes nothing.
 use mathlib.Core.Path.{_≡_, sym, _∙_}
 use mathlib.Core.Bool.{true}
 use borrow.Author.Tests.{lt-ltb, le-ltb, not-true, not-false}
@@ -10,71 +11,51 @@ use Rattle.fields.proofs.Asking.{leaves-asked}
 use borrow.Author.Needs.{needs}
 use Rattle.fields.proofs.ask.Statement.{statement}
 use Rattle.fields.proofs.ask.Tie as tie
-use Rattle.fields.proofs.ask.Reads as reads
-use Rattle.fields.proofs.ask.Lts as lts
-use Rattle.fields.proofs.asked.Reads as asked-reads
-use Rattle.fields.proofs.see.Reads as see-reads
-use Rattle.store.proofs.fits.Reads as fits-reads
-use Rattle.store.proofs.refused.Reads as refused-reads
-use Rattle.store.proofs.told.Reads as told-reads
 
 ok : (c : tie.Else1) → let a = c .before .before .before .before .args in fits (viewOf (memOf (now (a .heap)) (now (a .roots)) (a .store))) ≡ true
 ok c = sym (c .before .fits2 .ensures) ∙ not-false (c .before .fits2 .result) (c .if1 .left)
 
--- src/lib.rt:142:9
 fits-requires : tie.Need-fits-requires
 fits-requires c κs = search needs
 
--- src/lib.rt:143:9
 refused-requires : tie.Need-refused-requires
 refused-requires c κs = search needs
 
--- src/lib.rt:143:9
 returns : tie.Need-returns
 unfolding answered admit
 returns c = leaves-refused (rw (← c .before .before .fits2 .ensures, not-true (c .before .before .fits2 .result) (c .before .if1 .taken))) (c .refused .ensures)
 
--- src/lib.rt:146:9
 refused-requires-2 : tie.Need-refused-requires-2
 refused-requires-2 c κs = search needs
 
--- src/lib.rt:146:9
 returns-2 : tie.Need-returns-2
 unfolding answered admit
 returns-2 c = leaves-refused (rw (ok (c .before .before), le-ltb _ _ (c .before .if2 .taken))) (c .refused2 .ensures)
 
--- src/lib.rt:148:37
 mul-see : tie.Need-mul-see
 mul-see c = search needs
 
--- src/lib.rt:148:37
 shared-slice-read-see : tie.Need-shared-slice-read-see
 shared-slice-read-see c = search needs
 
--- src/lib.rt:148:9
 see-requires : tie.Need-see-requires
 see-requires c κs =
     let b = c .before .before in
     let a = b .before .before .before .before .args in
     fits-top (memOf (now (a .heap)) (now (a .roots)) (a .store)) (ok b) .0
 
--- src/lib.rt:150:24
 enum-told : tie.Need-enum-told
 enum-told c = search needs
 
--- src/lib.rt:150:24
 refused-requires-3 : tie.Need-refused-requires-3
 refused-requires-3 c κs = search needs
 
--- src/lib.rt:151:26
 asked-requires : tie.Need-asked-requires
 asked-requires c κs = search needs
 
--- src/lib.rt:151:14
 told-requires : tie.Need-told-requires
 told-requires c κs = search needs
 
--- src/lib.rt:138:1
 returns-3 : tie.Need-returns-3
 unfolding answered admit shown
 returns-3 c =
@@ -82,7 +63,6 @@ returns-3 c =
     let b = k .before .before in
     leaves-refused (rw (ok (b .before), lt-ltb _ _ (b .if2 .left), ← k .see .ensures, c .before .enum-told .given .1)) (c .refused3 .ensures)
 
--- src/lib.rt:138:1
 returns-4 : tie.Need-returns-4
 unfolding shown
 returns-4 c =

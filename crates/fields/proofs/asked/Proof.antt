@@ -1,3 +1,4 @@
+-- `asked` meets its contract: case by case. Assumes nothing.
 use mathlib.Core.Path.{ap}
 use lib.IntN.{ℤ}
 use mir.Syntax.{w32}
@@ -8,42 +9,31 @@ use Rattle.meaning.specs.Calls.{integer}
 use borrow.Author.Needs.{needs}
 use Rattle.fields.proofs.asked.Statement.{statement}
 use Rattle.fields.proofs.asked.Tie as tie
-use Rattle.fields.proofs.asked.Reads as reads
-use Rattle.fields.proofs.asked.Lts as lts
 
--- src/lib.rt:125:22
 enum-known-seen : tie.Need-enum-known-seen
 enum-known-seen c = search needs
 
--- src/lib.rt:126:24
 enum-told : tie.Need-enum-told
 enum-told c = search needs
 
--- src/lib.rt:127:24
 enum-told-2 : tie.Need-enum-told-2
 enum-told-2 c = search needs
 
--- src/lib.rt:128:25
 enum-known-seen-2 : tie.Need-enum-known-seen-2
 enum-known-seen-2 c = search needs
 
--- src/lib.rt:130:17
 returns : tie.Need-returns
 returns c = rw (c .before .before .seen2 .given .1, eq-eqb _ _ (c .if1 .taken))
 
--- src/lib.rt:121:1
 returns-2 : tie.Need-returns-2
 returns-2 c = rw (c .before .seen .given .1) (ap (λ (z : ℤ). gives (integer z)) (toZ-ofZ w32 (c .before .seen .given .0 .0) (record { sfits = c .known-told .given .0 .1 })))
 
--- src/lib.rt:121:1
 returns-3 : tie.Need-returns-3
 returns-3 c = rw (c .enum-told .given .1)
 
--- src/lib.rt:121:1
 returns-4 : tie.Need-returns-4
 returns-4 c = rw (c .enum-told2 .given .1)
 
--- src/lib.rt:121:1
 returns-5 : tie.Need-returns-5
 returns-5 c = rw (c .before .before .seen2 .given .1, ne-eqb _ _ (c .if1 .left))
 

@@ -1,3 +1,4 @@
+-- `find` meets its contract: 1 and 7 first, then what the slot shows. Assumes nothing.
 use mathlib.Core.Path.{_≡_, sym, _∙_}
 use mathlib.Core.Bool.{true}
 use borrow.Author.Tests.{lt-ltb, le-ltb, not-true, not-false}
@@ -10,54 +11,40 @@ use Rattle.store.proofs.CallsLeave.{fits-top}
 use borrow.Author.Needs.{needs}
 use Rattle.fields.proofs.find.Statement.{statement}
 use Rattle.fields.proofs.find.Tie as tie
-use Rattle.fields.proofs.find.Reads as reads
-use Rattle.fields.proofs.find.Lts as lts
-use Rattle.fields.proofs.locate.Reads as locate-reads
-use Rattle.fields.proofs.see.Reads as see-reads
-use Rattle.store.proofs.fits.Reads as fits-reads
 
 ok : (c : tie.Else1) → let a = c .before .before .before .before .args in fits (viewOf (memOf (now (a .heap)) (now (a .roots)) (a .store))) ≡ true
 ok c = sym (c .before .fits2 .ensures) ∙ not-false (c .before .fits2 .result) (c .if1 .left)
 
--- src/lib.rt:107:9
 fits-requires : tie.Need-fits-requires
 fits-requires c κs = search needs
 
--- src/lib.rt:108:9
 returns : tie.Need-returns
 unfolding finding
 returns c = record { found-is = rw (← c .before .fits2 .ensures, not-true (c .before .fits2 .result) (c .if1 .taken)) }
 
--- src/lib.rt:111:9
 returns-2 : tie.Need-returns-2
 unfolding finding
 returns-2 c = record { found-is = rw (ok (c .before), le-ltb _ _ (c .if2 .taken)) }
 
--- src/lib.rt:114:9
 returns-3 : tie.Need-returns-3
 unfolding finding
 returns-3 c = record { found-is = rw (ok (c .before .before), lt-ltb _ _ (c .before .if2 .left), le-ltb _ _ (c .if3 .taken)) }
 
--- src/lib.rt:116:37
 mul-see : tie.Need-mul-see
 mul-see c = search needs
 
--- src/lib.rt:116:37
 shared-slice-read-see : tie.Need-shared-slice-read-see
 shared-slice-read-see c = search needs
 
--- src/lib.rt:116:9
 see-requires : tie.Need-see-requires
 see-requires c κs =
     let b = c .before .before .before in
     let a = b .before .before .before .before .args in
     fits-top (memOf (now (a .heap)) (now (a .roots)) (a .store)) (ok b) .0
 
--- src/lib.rt:117:5
 locate-requires : tie.Need-locate-requires
 locate-requires c κs = search needs
 
--- src/lib.rt:96:1
 returns-4 : tie.Need-returns-4
 unfolding finding shown
 returns-4 c =

@@ -1,3 +1,4 @@
+-- `read_field` meets its contract: found, and its word put into the target. Assumes nothing.
 use Prim.Native.Nat.{ℕ}
 use mathlib.Core.Path.{refl}
 use native.Mathlib.Omega.{arith}
@@ -9,62 +10,44 @@ use Rattle.fields.proofs.Finding.{found-at, leaves-unfound, leaves-foun
 use borrow.Author.Needs.{needs}
 use Rattle.fields.proofs.read_field.Statement.{statement}
 use Rattle.fields.proofs.read_field.Tie as tie
-use Rattle.fields.proofs.read_field.Reads as reads
-use Rattle.fields.proofs.read_field.Lts as lts
-use Rattle.fields.proofs.find.Reads as find-reads
-use Rattle.store.proofs.refused.Reads as refused-reads
-use Rattle.store.proofs.told.Reads as told-reads
 
--- src/lib.rt:167:9
 find-requires : tie.Need-find-requires
 find-requires c κs = search needs
 
--- src/lib.rt:169:19
 enum-known-found : tie.Need-enum-known-found
 enum-known-found c = search needs
 
--- src/lib.rt:169:37
 refused-requires : tie.Need-refused-requires
 refused-requires c κs = search needs
 
--- src/lib.rt:170:19
 enum-known-found-2 : tie.Need-enum-known-found-2
 enum-known-found-2 c = search needs
 
--- src/lib.rt:171:38
 mul-roots : tie.Need-mul-roots
 mul-roots c = let x = found-at (c .before .before .before .find .ensures) (c .before .found2 .given .1) in omega arith
 
--- src/lib.rt:171:38
 shared-slice-read-roots : tie.Need-shared-slice-read-roots
 shared-slice-read-roots c = let x = found-at (c .before .before .before .before .find .ensures) (c .before .before .found2 .given .1) in omega arith
 
--- src/lib.rt:171:13
 mul-roots-2 : tie.Need-mul-roots-2
 mul-roots-2 c = search needs
 
--- src/lib.rt:171:13
 slice-write-roots : tie.Need-slice-write-roots
 slice-write-roots c = let x = found-at (c .before .before .before .before .find .ensures) (c .before .before .found2 .given .1) in omega arith
 
--- src/lib.rt:172:13
 told-requires : tie.Need-told-requires
 told-requires c κs = search needs
 
--- src/lib.rt:156:1
 same-length : tie.Need-same-length
 same-length c = search needs
 
--- src/lib.rt:156:1
 returns : tie.Need-returns
 unfolding admit finding
 returns c = leaves-unfound (readField _ _ _) refl (c .before .before .before .before .find .ensures) (c .before .before .found .given .1) (c .refused .ensures)
 
--- src/lib.rt:156:1
 same-length-2 : tie.Need-same-length-2
 same-length-2 c = search needs
 
--- src/lib.rt:156:1
 returns-2 : tie.Need-returns-2
 unfolding admit finding
 returns-2 c =

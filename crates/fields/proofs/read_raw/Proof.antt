@@ -1,3 +1,4 @@
+-- `read_raw` meets its contract: found, and its word said. Assumes nothing.
 use Prim.Native.Nat.{ℕ}
 use mathlib.Core.Path.{refl}
 use native.Mathlib.Omega.{arith}
@@ -8,46 +9,32 @@ use Rattle.fields.proofs.Finding.{found-at, leaves-unfound, leaves-foun
 use borrow.Author.Needs.{needs}
 use Rattle.fields.proofs.read_raw.Statement.{statement}
 use Rattle.fields.proofs.read_raw.Tie as tie
-use Rattle.fields.proofs.read_raw.Reads as reads
-use Rattle.fields.proofs.read_raw.Lts as lts
-use Rattle.fields.proofs.find.Reads as find-reads
-use Rattle.store.proofs.refused.Reads as refused-reads
-use Rattle.store.proofs.told.Reads as told-reads
 
--- src/lib.rt:204:9
 find-requires : tie.Need-find-requires
 find-requires c κs = search needs
 
--- src/lib.rt:206:19
 enum-known-found : tie.Need-enum-known-found
 enum-known-found c = search needs
 
--- src/lib.rt:206:37
 refused-requires : tie.Need-refused-requires
 refused-requires c κs = search needs
 
--- src/lib.rt:207:19
 enum-known-found-2 : tie.Need-enum-known-found-2
 enum-known-found-2 c = search needs
 
--- src/lib.rt:207:51
 mul-t11 : tie.Need-mul-t11
 mul-t11 c = let x = found-at (c .before .before .before .find .ensures) (c .before .found2 .given .1) in omega arith
 
--- src/lib.rt:207:51
 shared-slice-read-t13 : tie.Need-shared-slice-read-t13
 shared-slice-read-t13 c = let x = found-at (c .before .before .before .before .find .ensures) (c .before .before .found2 .given .1) in omega arith
 
--- src/lib.rt:207:28
 told-requires : tie.Need-told-requires
 told-requires c κs = search needs
 
--- src/lib.rt:200:1
 returns : tie.Need-returns
 unfolding admit
 returns c = leaves-unfound (readRaw _ _) (finding-once _ _ _ _) (c .before .before .before .before .find .ensures) (c .before .before .found .given .1) (c .refused .ensures)
 
--- src/lib.rt:200:1
 returns-2 : tie.Need-returns-2
 unfolding admit
 returns-2 c =

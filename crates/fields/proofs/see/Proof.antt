@@ -1,3 +1,4 @@
+-- `see` meets its contract: case by case. Assumes nothing.
 use mathlib.Core.Path.{ap, sym, _∙_}
 use Rattle.meaning.specs.Values.{valueOf}
 use lib.IntN.{ℤ}
@@ -8,54 +9,38 @@ use Rattle.words.specs.Paper.{shownValue}
 use borrow.Author.Needs.{needs}
 use Rattle.fields.proofs.see.Statement.{statement}
 use Rattle.fields.proofs.see.Tie as tie
-use Rattle.fields.proofs.see.Reads as reads
-use Rattle.fields.proofs.see.Lts as lts
-use Rattle.fields.proofs.see_object.Reads as see-object-reads
-use Rattle.words.proofs.Place.number.Reads as number-reads
-use Rattle.words.proofs.Word.from_bits.Reads as from-bits-reads
-use Rattle.words.proofs.Word.shown.Reads as shown-reads
 
--- src/lib.rt:53:17
 from-bits-requires : tie.Need-from-bits-requires
 from-bits-requires c κs = search needs
 
--- src/lib.rt:53:9
 shown-requires : tie.Need-shown-requires
 shown-requires c κs = search needs
 
--- src/lib.rt:55:20
 enum-known-shown : tie.Need-enum-known-shown
 enum-known-shown c = search needs
 
--- src/lib.rt:56:23
 enum-told : tie.Need-enum-told
 enum-told c = search needs
 
--- src/lib.rt:57:20
 enum-known-shown-2 : tie.Need-enum-known-shown-2
 enum-known-shown-2 c = search needs
 
--- src/lib.rt:57:52
 number-requires : tie.Need-number-requires
 number-requires c κs = search needs
 
--- src/lib.rt:57:30
 see-object-requires : tie.Need-see-object-requires
 see-object-requires c κs = search needs
 
--- src/lib.rt:49:1
 returns : tie.Need-returns
 returns c =
     let k = c .before .before .before in
     rw (← sym (ap shownValue (c .before .shown2 .given .1)) ∙ k .shown .ensures ∙ ap valueOf (k .before .from-bits .ensures)) (ap (λ (z : ℤ). plain (integer z)) (toZ-ofZ w32 (c .before .shown2 .given .0 .0) (record { sfits = c .known-told .given .0 .1 })))
 
--- src/lib.rt:49:1
 returns-2 : tie.Need-returns-2
 returns-2 c =
     let k = c .before .before in
     rw (← sym (ap shownValue (c .enum-told .given .1)) ∙ k .shown .ensures ∙ ap valueOf (k .before .from-bits .ensures))
 
--- src/lib.rt:49:1
 returns-3 : tie.Need-returns-3
 returns-3 c =
     let s = c .before .before .before in

@@ -1,3 +1,4 @@
+-- `see_object` meets its contract: a legal header below the top, of an object that ends there. Assumes nothing.
 use Prim.Native.Nat.{suc, _+_, _/_}
 use native.Mathlib.Omega.{arith}
 use borrow.Author.Tests.{lt-ltb, le-ltb, le-leb, lt-leb, not-true, not-false}
@@ -7,45 +8,34 @@ use Rattle.meaning.specs.Objects.{legalHeader}
 use borrow.Author.Needs.{needs}
 use Rattle.fields.proofs.see_object.Statement.{statement}
 use Rattle.fields.proofs.see_object.Tie as tie
-use Rattle.fields.proofs.see_object.Reads as reads
-use Rattle.fields.proofs.see_object.Lts as lts
 
--- src/lib.rt:35:9
 returns : tie.Need-returns
 returns c = rw (le-ltb _ _ (c .if1 .taken))
 
--- src/lib.rt:37:18
 mul-header : tie.Need-mul-header
 mul-header c = search needs
 
--- src/lib.rt:37:18
 shared-slice-read-header : tie.Need-shared-slice-read-header
 shared-slice-read-header c = search needs
 
--- src/lib.rt:38:32
 add-legal : tie.Need-add-legal
 add-legal c = search needs
 
--- src/lib.rt:38:27
 mul-legal : tie.Need-mul-legal
 mul-legal c = search needs
 
--- src/lib.rt:40:9
 returns-2 : tie.Need-returns-2
 returns-2 c = let a = c .before .before .before .args in rw (lt-ltb _ _ (c .before .before .if1 .left), not-true (legalHeader (getD (now (a .heap)) (a .place) 0)) (c .if2 .taken))
 
--- src/lib.rt:42:8
 sub-if3 : tie.Need-sub-if3
 sub-if3 c = search needs
 
--- src/lib.rt:43:9
 returns-3 : tie.Need-returns-3
 returns-3 c =
     let b = c .before .before .before in
     let a = b .before .args in
     rw (lt-ltb _ _ (b .if1 .left), not-false (legalHeader (getD (now (a .heap)) (a .place) 0)) (c .before .if2 .left), lt-leb (suc (a .place) + getD (now (a .heap)) (a .place) 0 / 4) (a .top) (omega arith))
 
--- src/lib.rt:30:1
 returns-4 : tie.Need-returns-4
 returns-4 c =
     let b = c .before .before .before in

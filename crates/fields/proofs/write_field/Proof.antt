@@ -1,3 +1,4 @@
+-- `write_field` meets its contract: found, and the source's word put there. Assumes nothing.
 use Prim.Native.Nat.{ℕ}
 use mathlib.Core.Path.{refl}
 use native.Mathlib.Omega.{arith}
@@ -9,62 +10,44 @@ use Rattle.fields.proofs.Finding.{found-at, leaves-unfound, leaves-foun
 use borrow.Author.Needs.{needs}
 use Rattle.fields.proofs.write_field.Statement.{statement}
 use Rattle.fields.proofs.write_field.Tie as tie
-use Rattle.fields.proofs.write_field.Reads as reads
-use Rattle.fields.proofs.write_field.Lts as lts
-use Rattle.fields.proofs.find.Reads as find-reads
-use Rattle.store.proofs.refused.Reads as refused-reads
-use Rattle.store.proofs.told.Reads as told-reads
 
--- src/lib.rt:189:9
 find-requires : tie.Need-find-requires
 find-requires c κs = search needs
 
--- src/lib.rt:191:19
 enum-known-found : tie.Need-enum-known-found
 enum-known-found c = search needs
 
--- src/lib.rt:191:37
 refused-requires : tie.Need-refused-requires
 refused-requires c κs = search needs
 
--- src/lib.rt:192:19
 enum-known-found-2 : tie.Need-enum-known-found-2
 enum-known-found-2 c = search needs
 
--- src/lib.rt:193:24
 mul-heap : tie.Need-mul-heap
 mul-heap c = search needs
 
--- src/lib.rt:193:24
 shared-slice-read-heap : tie.Need-shared-slice-read-heap
 shared-slice-read-heap c = let x = found-at (c .before .before .before .before .find .ensures) (c .before .before .found2 .given .1) in omega arith
 
--- src/lib.rt:193:13
 mul-heap-2 : tie.Need-mul-heap-2
 mul-heap-2 c = let x = found-at (c .before .before .before .before .find .ensures) (c .before .before .found2 .given .1) in omega arith
 
--- src/lib.rt:193:13
 slice-write-heap : tie.Need-slice-write-heap
 slice-write-heap c = let x = found-at (c .before .before .before .before .find .ensures) (c .before .before .found2 .given .1) in omega arith
 
--- src/lib.rt:194:13
 told-requires : tie.Need-told-requires
 told-requires c κs = search needs
 
--- src/lib.rt:178:1
 same-length : tie.Need-same-length
 same-length c = search needs
 
--- src/lib.rt:178:1
 returns : tie.Need-returns
 unfolding admit finding
 returns c = leaves-unfound (writeField _ _ _) refl (c .before .before .before .before .find .ensures) (c .before .before .found .given .1) (c .refused .ensures)
 
--- src/lib.rt:178:1
 same-length-2 : tie.Need-same-length-2
 same-length-2 c = search needs
 
--- src/lib.rt:178:1
 returns-2 : tie.Need-returns-2
 unfolding admit finding
 returns-2 c =

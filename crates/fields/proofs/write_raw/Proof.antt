@@ -1,3 +1,4 @@
+-- `write_raw` meets its contract: found, and the word put there. Assumes nothing.
 use Prim.Native.Nat.{ℕ}
 use mathlib.Core.Path.{refl}
 use native.Mathlib.Omega.{arith}
@@ -7,54 +8,38 @@ use Rattle.fields.proofs.Finding.{found-at, leaves-unfound, leaves-foun
 use borrow.Author.Needs.{needs}
 use Rattle.fields.proofs.write_raw.Statement.{statement}
 use Rattle.fields.proofs.write_raw.Tie as tie
-use Rattle.fields.proofs.write_raw.Reads as reads
-use Rattle.fields.proofs.write_raw.Lts as lts
-use Rattle.fields.proofs.find.Reads as find-reads
-use Rattle.store.proofs.refused.Reads as refused-reads
-use Rattle.store.proofs.told.Reads as told-reads
 
--- src/lib.rt:223:9
 find-requires : tie.Need-find-requires
 find-requires c κs = search needs
 
--- src/lib.rt:225:19
 enum-known-found : tie.Need-enum-known-found
 enum-known-found c = search needs
 
--- src/lib.rt:225:37
 refused-requires : tie.Need-refused-requires
 refused-requires c κs = search needs
 
--- src/lib.rt:226:19
 enum-known-found-2 : tie.Need-enum-known-found-2
 enum-known-found-2 c = search needs
 
--- src/lib.rt:227:13
 mul-heap : tie.Need-mul-heap
 mul-heap c = let x = found-at (c .before .before .before .find .ensures) (c .before .found2 .given .1) in omega arith
 
--- src/lib.rt:227:13
 slice-write-heap : tie.Need-slice-write-heap
 slice-write-heap c = let x = found-at (c .before .before .before .find .ensures) (c .before .found2 .given .1) in omega arith
 
--- src/lib.rt:228:13
 told-requires : tie.Need-told-requires
 told-requires c κs = search needs
 
--- src/lib.rt:212:1
 same-length : tie.Need-same-length
 same-length c = search needs
 
--- src/lib.rt:212:1
 returns : tie.Need-returns
 unfolding admit
 returns c = leaves-unfound (writeRaw _ _ _) (finding-once _ _ _ _) (c .before .before .before .before .find .ensures) (c .before .before .found .given .1) (c .refused .ensures)
 
--- src/lib.rt:212:1
 same-length-2 : tie.Need-same-length-2
 same-length-2 c = search needs
 
--- src/lib.rt:212:1
 returns-2 : tie.Need-returns-2
 unfolding admit
 returns-2 c =

@@ -1,3 +1,4 @@
+-- `put_int` meets its contract: an integer into a slot, and what is refused before it. Assumes nothing.
 use mathlib.Core.Path.{_≡_, refl, ap, sym, _∙_}
 use mathlib.Core.Bool.{true}
 use borrow.Author.Tests.{lt-ltb, le-ltb, not-true, not-false}
@@ -16,68 +17,48 @@ use Rattle.slots.proofs.Making.{made-is, made-refused}
 use borrow.Author.Needs.{needs}
 use Rattle.slots.proofs.put_int.Statement.{statement}
 use Rattle.slots.proofs.put_int.Tie as tie
-use Rattle.slots.proofs.put_int.Reads as reads
-use Rattle.slots.proofs.put_int.Lts as lts
-use Rattle.store.proofs.fits.Reads as fits-reads
-use Rattle.store.proofs.refused.Reads as refused-reads
-use Rattle.store.proofs.told.Reads as told-reads
-use Rattle.words.proofs.Word.bits.Reads as bits-reads
-use Rattle.words.proofs.Word.of_int.Reads as of-int-reads
 
 ok : (c : tie.Else1) → let a = c .before .before .before .before .before .args in fits (viewOf (memOf (now (a .heap)) (now (a .roots)) (a .store))) ≡ true
 ok c = sym (c .before .fits2 .ensures) ∙ not-false (c .before .fits2 .result) (c .if1 .left)
 
--- src/lib.rt:19:9
 fits-requires : tie.Need-fits-requires
 fits-requires c κs = search needs
 
--- src/lib.rt:20:9
 refused-requires : tie.Need-refused-requires
 refused-requires c κs = search needs
 
--- src/lib.rt:20:9
 same-length : tie.Need-same-length
 same-length c = search needs
 
--- src/lib.rt:20:9
 returns : tie.Need-returns
 unfolding answered admit
 returns c = leaves-refused (rw (← c .before .before .fits2 .ensures, not-true (c .before .before .fits2 .result) (c .before .if1 .taken))) (c .refused .ensures)
 
--- src/lib.rt:23:9
 refused-requires-2 : tie.Need-refused-requires-2
 refused-requires-2 c κs = search needs
 
--- src/lib.rt:23:9
 same-length-2 : tie.Need-same-length-2
 same-length-2 c = search needs
 
--- src/lib.rt:23:9
 returns-2 : tie.Need-returns-2
 unfolding answered admit
 returns-2 c = leaves-refused (rw (ok (c .before .before), le-ltb _ _ (c .before .if2 .taken))) (c .refused2 .ensures)
 
--- src/lib.rt:25:9
 of-int-requires : tie.Need-of-int-requires
 of-int-requires c κs = search needs
 
--- src/lib.rt:26:18
 enum-known-made : tie.Need-enum-known-made
 enum-known-made c = search needs
 
--- src/lib.rt:27:9
 enum-told : tie.Need-enum-told
 enum-told c = search needs
 
--- src/lib.rt:27:9
 refused-requires-3 : tie.Need-refused-requires-3
 refused-requires-3 c κs = search needs
 
--- src/lib.rt:27:9
 same-length-3 : tie.Need-same-length-3
 same-length-3 c = search needs
 
--- src/lib.rt:27:9
 returns-3 : tie.Need-returns-3
 unfolding answered admit
 returns-3 c =
@@ -88,27 +69,21 @@ returns-3 c =
     (rw (ok (b .before), lt-ltb _ _ (b .if2 .left), made-refused (int v) (sym (ap madeWord (c .before .enum-told .given .1)) ∙ c .before .before .before .of-int .ensures ∙ ap (λ (z : ℤ). make (int z)) (toZ-ofZ w32 v (s .fits .value)))))
     (c .refused3 .ensures)
 
--- src/lib.rt:29:28
 bits-requires : tie.Need-bits-requires
 bits-requires c κs = search needs
 
--- src/lib.rt:29:5
 mul-roots : tie.Need-mul-roots
 mul-roots c = search needs
 
--- src/lib.rt:29:5
 slice-write-roots : tie.Need-slice-write-roots
 slice-write-roots c = search needs
 
--- src/lib.rt:30:5
 told-requires : tie.Need-told-requires
 told-requires c κs = search needs
 
--- src/lib.rt:15:1
 same-length-4 : tie.Need-same-length-4
 same-length-4 c = search needs
 
--- src/lib.rt:15:1
 returns-4 : tie.Need-returns-4
 unfolding answered admit
 returns-4 c =

@@ -1,3 +1,4 @@
+-- `same` meets its contract: two slots compared. Assumes nothing.
 use mathlib.Core.Path.{_≡_, refl, sym, _∙_}
 use mathlib.Core.Bool.{true}
 use borrow.Author.Tests.{lt-ltb, le-ltb, not-true, not-false}
@@ -10,67 +11,49 @@ use Rattle.store.proofs.CallsLeave.{leaves-refused, leaves-told}
 use borrow.Author.Needs.{needs}
 use Rattle.slots.proofs.same.Statement.{statement}
 use Rattle.slots.proofs.same.Tie as tie
-use Rattle.slots.proofs.same.Reads as reads
-use Rattle.slots.proofs.same.Lts as lts
-use Rattle.store.proofs.fits.Reads as fits-reads
-use Rattle.store.proofs.refused.Reads as refused-reads
-use Rattle.store.proofs.told.Reads as told-reads
 
 ok : (c : tie.Else1) → let a = c .before .before .before .before .args in fits (viewOf (memOf (now (a .heap)) (now (a .roots)) (a .store))) ≡ true
 ok c = sym (c .before .fits2 .ensures) ∙ not-false (c .before .fits2 .result) (c .if1 .left)
 
--- src/lib.rt:71:9
 fits-requires : tie.Need-fits-requires
 fits-requires c κs = search needs
 
--- src/lib.rt:72:9
 refused-requires : tie.Need-refused-requires
 refused-requires c κs = search needs
 
--- src/lib.rt:72:9
 returns : tie.Need-returns
 unfolding answered admit
 returns c = leaves-refused (rw (← c .before .before .fits2 .ensures, not-true (c .before .before .fits2 .result) (c .before .if1 .taken))) (c .refused .ensures)
 
--- src/lib.rt:75:9
 refused-requires-2 : tie.Need-refused-requires-2
 refused-requires-2 c κs = search needs
 
--- src/lib.rt:75:9
 returns-2 : tie.Need-returns-2
 unfolding answered admit
 returns-2 c = leaves-refused (rw (ok (c .before .before), le-ltb _ _ (c .before .if2 .taken))) (c .refused2 .ensures)
 
--- src/lib.rt:78:9
 refused-requires-3 : tie.Need-refused-requires-3
 refused-requires-3 c κs = search needs
 
--- src/lib.rt:78:9
 returns-3 : tie.Need-returns-3
 unfolding answered admit
 returns-3 c = leaves-refused (rw (ok (c .before .before .before), lt-ltb _ _ (c .before .before .if2 .left), le-ltb _ _ (c .before .if3 .taken))) (c .refused3 .ensures)
 
--- src/lib.rt:82:20
 mul-t9 : tie.Need-mul-t9
 mul-t9 c = search needs
 
--- src/lib.rt:82:20
 shared-slice-read-t11 : tie.Need-shared-slice-read-t11
 shared-slice-read-t11 c = search needs
 
--- src/lib.rt:82:45
 mul-t13 : tie.Need-mul-t13
 mul-t13 c = search needs
 
--- src/lib.rt:82:45
 shared-slice-read-t15 : tie.Need-shared-slice-read-t15
 shared-slice-read-t15 c = search needs
 
--- src/lib.rt:80:5
 told-requires : tie.Need-told-requires
 told-requires c κs = search needs
 
--- src/lib.rt:67:1
 returns-4 : tie.Need-returns-4
 unfolding answered admit
 returns-4 c = let b = c .before .before .before in leaves-told (b .before .before .before .before .before .before .args .store) (Same _) (rw (ok (b .before .before), lt-ltb _ _ (b .before .if2 .left), lt-ltb _ _ (b .if3 .left))) (c .told .ensures) refl refl

@@ -1,5 +1,5 @@
 -- `bits` meets its contract: below zero the number is -1 - n, else n. Assumes nothing.
-use Prim.Native.Nat.{ℕ, suc, _-_, _<_, _≤_, zero-le}
+use Prim.Native.Nat.{ℕ, suc, _-_, _≤_, zero-le}
 use mathlib.Core.Path.{_≡_, refl, ap, _∙_}
 use mathlib.Core.Bool.{true, false}
 use native.Mathlib.Omega.{arith}

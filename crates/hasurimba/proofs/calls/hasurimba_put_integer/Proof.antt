@@ -1,7 +1,5 @@
 -- `hasurimba_put_integer` meets its contract: the code holds the value itself. Assumes nothing.
 use borrow.Author.Needs.{needs}
-use mir.Syntax.{w32}
-use mir.Val.{toZ, ofZ}
 use mir.Facts.{toZ-ofZ}
 use Rattle.hasurimba.proofs.calls.hasurimba_put_integer.Statement.{statement}
 use Rattle.hasurimba.proofs.calls.hasurimba_put_integer.Tie as tie

@@ -1,4 +1,6 @@
 // The calls that make an object: a record of nils or raw words of zeros at the top, its reference into a slot.
+#![tactic(auto)]
+
 ghost use Rattle.std.specs.Prelude.{◌≡◌, ◌+◌, ◌≤◌, ◌<◌, length, replicate};
 ghost use Rattle.meaning.specs.Calls.{new_record, new_raw};
 ghost use Rattle.meaning.specs.Store.{answered};

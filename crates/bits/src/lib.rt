@@ -1,4 +1,6 @@
 // Bitmaps in lent words: bit i, least first, of word b stands for place 64 b + i.
+#![tactic(auto)]
+
 ghost use Rattle.std.specs.Prelude.{◌≡◌, ◌||◌, ℕ, ◌+◌, ◌-◌, ◌*◌, ◌%◌, ◌<◌, ◌≤◌, min, length, replicate};
 ghost use Rattle.meaning.specs.Limits.{block_words, table_entries};
 ghost use Rattle.meaning.specs.Places.{below, src, bit_set, marked};

@@ -1,4 +1,6 @@
 // Cursors over the live words, and block moves.
+#![tactic(auto)]
+
 ghost use Rattle.std.specs.Prelude.{◌≡◌, ℕ, ◌*◌, ◌≤◌, ◌<◌, length, get_or};
 ghost use Rattle.meaning.specs.Limits.{heap_words, block_words, blocks_of};
 ghost use Rattle.meaning.specs.Places.{below, bit_set};

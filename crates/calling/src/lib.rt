@@ -1,4 +1,6 @@
 // All store calls: one function for every call that borrows heap and slots alone, and the collect call.
+#![tactic(auto)]
+
 ghost use Rattle.std.specs.Prelude.{◌≡◌};
 ghost use Rattle.meaning.specs.Store.{answered};
 ghost use Rattle.store.specs.Contract.{mem_of, call_of, brought_of, shrunk_of, Leaves, LeavesCollected};

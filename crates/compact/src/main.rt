@@ -1,4 +1,6 @@
 // Reads one image from standard input, and writes the answer to standard output. The decisions are all the library's.
+#![tactic(auto)]
+
 use libc::{STDIN_FILENO, STDOUT_FILENO};
 
 // The answer to one image; the mark bitmap is all zero at first.

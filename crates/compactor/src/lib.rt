@@ -1,4 +1,6 @@
 // The whole collection: what is refused, then references fixed, live words moved by blocks, and the rest cleared.
+#![tactic(auto)]
+
 ghost use Rattle.std.specs.Prelude.{◌≡◌, map, ◌≤◌, length};
 ghost use Rattle.meaning.specs.Limits.{heap_words};
 ghost use Rattle.meaning.specs.Places.{below, marked};

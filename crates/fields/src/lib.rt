@@ -1,4 +1,6 @@
 // The calls about the object that a slot holds: asking what it is, and its fields and raw words read and written.
+#![tactic(auto)]
+
 ghost use Rattle.std.specs.Prelude.{◌≡◌, ◌≤◌, length};
 ghost use Rattle.meaning.specs.Values.{value_of, ref};
 ghost use Rattle.meaning.specs.Answers.{gives};

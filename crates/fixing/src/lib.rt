@@ -1,4 +1,6 @@
 // The phases that change words where they stand: references sent on to the new places, and the tail zeroed.
+#![tactic(auto)]
+
 ghost use Rattle.std.specs.Prelude.{◌≡◌, true, map, ◌/◌, ◌<◌, ◌≤◌, length};
 ghost use Rattle.meaning.specs.Limits.{block_words};
 ghost use Rattle.meaning.specs.Values.{is_ref, place_of, ref_to};

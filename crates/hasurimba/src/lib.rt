@@ -1,5 +1,7 @@
 // The C interface. Every function answers 0 where accepted, else the refusal's number + 256 * the place reported; values go
 // to the four words `out`, which stay as found on a refusal. None has a `requires`: C cannot be asked for one.
+#![tactic(auto)]
+
 ghost use Rattle.meaning.specs.Collect.{check, collect};
 ghost use Rattle.meaning.specs.Lookups.{old_to_new, new_to_old};
 ghost use Rattle.telling.specs.Out.{Says, SaysCollected, count_words, found_words};

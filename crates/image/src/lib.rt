@@ -1,4 +1,6 @@
 // An image's bytes: its contents judged, and its bodies copied out as words.
+#![tactic(auto)]
+
 ghost use Rattle.std.specs.Prelude.{◌≡◌, ◌+◌, ◌*◌, ◌<◌, ◌≤◌, length};
 ghost use Rattle.meaning.specs.Image.{word_at, pair_at, words_from, pairs_from, contents_of, shaped, sized, judged_contents};
 ghost use Rattle.image.specs.Judging.{table_of, judged_of};

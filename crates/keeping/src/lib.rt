@@ -1,4 +1,6 @@
 // A store call on the record that C keeps: eight words, word 0 the top and word 1 the calls answered.
+#![tactic(auto)]
+
 ghost use Rattle.std.specs.Prelude.{◌≡◌, ◌<◌, get_or};
 ghost use Rattle.meaning.specs.Sequences.{call};
 ghost use Rattle.store.specs.Contract.{call_of, brought_of, store_of};

@@ -1,4 +1,6 @@
 // The thin layer: the small record lent and changed in place, over the calls that take it by value and give it back.
+#![tactic(auto)]
+
 ghost use Rattle.meaning.specs.Store.{answered};
 ghost use Rattle.store.specs.Contract.{mem_of, call_of, brought_of, Leaves, LeavesCollected};
 

@@ -54,7 +54,7 @@ pub parse-encode_from : (p : ℕ) (os : List Object) → Legal os → parse_from
 parse-encode_from p [] l = refl
 parse-encode_from p (o ∷ os) l =
     rw (header_legal o l.0, header_size o, le-leb (length (payload o)) (length (payload o ++ encode os)) (omega (arith, length-append (payload o) (encode os))), take-append_seam (payload o) (encode os), header_object o, skip (suc p) (payload o) (encode os))
-    (ap (push o) (parse-encode_from _ os l.1))
+    (ap (push o) (parse-encode_from (suc p + length (payload o)) os l.1))
 
 pub parse-encode : (os : List Object) (rest : List ℕ) → Legal os → parse (encode os ++ rest) (length (encode os)) ≡ all os
 unfolding parse

@@ -1,4 +1,6 @@
 // The check of heap, roots and marks: refusals 1 to 5, or the live words and the number of marked objects.
+#![tactic(auto)]
+
 ghost use Rattle.std.specs.Prelude.{◌≡◌, true, ◌≤◌, length};
 ghost use Rattle.meaning.specs.Limits.{table_entries};
 ghost use Rattle.meaning.specs.Collect.{sizes_fit, check as check_of};

@@ -1,4 +1,6 @@
 // The judge of an order from the offset table.
+#![tactic(auto)]
+
 ghost use Rattle.std.specs.Prelude.{◌≡◌, List, ℕ, ◌≤◌, ◌<◌};
 ghost use Rattle.meaning.specs.Limits.{heap_words, table_entries, blocks_of};
 ghost use Rattle.meaning.proofs.TwoTargets.{goes_ok, early_by};

@@ -1,4 +1,6 @@
 // The answer to one image, as text in a lent buffer.
+#![tactic(auto)]
+
 ghost use Rattle.std.specs.Prelude.{◌≡◌, ◌++◌, ◌+◌, ◌*◌, ◌/◌, ◌≤◌, length, take, drop};
 ghost use Rattle.meaning.specs.Collect.{collect as collect_of};
 ghost use Rattle.meaning.specs.Image.{image_of, collection_of, lines_of, printed};

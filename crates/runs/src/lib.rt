@@ -1,4 +1,6 @@
 // Bits set in a row, and words in a row moved down: a block move goes from run to run.
+#![tactic(auto)]
+
 ghost use Rattle.std.specs.Prelude.{◌≡◌, true, ◌+◌, ◌≤◌, ◌<◌, length};
 ghost use Rattle.meaning.specs.Limits.{block_words};
 ghost use Rattle.meaning.specs.Places.{bit_set};

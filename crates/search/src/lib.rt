@@ -1,4 +1,6 @@
 // Refusals 3, 4 and 5: the lowest stray mark, and the lowest root and field that refer to a place without a mark.
+#![tactic(auto)]
+
 ghost use Rattle.std.specs.Prelude.{◌≡◌, true, not, ◌&&◌, ℕ, ◌+◌, ◌*◌, ◌≤◌, length, get_or};
 ghost use Rattle.meaning.specs.Limits.{block_words, table_entries};
 ghost use Rattle.meaning.specs.Values.{is_ref, place_of};

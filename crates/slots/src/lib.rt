@@ -1,4 +1,6 @@
 // The calls on slots alone: an integer, nil or another slot's word put into a slot, and two slots compared.
+#![tactic(auto)]
+
 ghost use Rattle.meaning.specs.Calls.{put_int, put_nil, copy as copy_call, same as same_call};
 ghost use Rattle.meaning.specs.Store.{answered};
 ghost use Rattle.store.specs.Contract.{mem_of, Leaves};

@@ -1,4 +1,6 @@
 // What the store calls share: the small record, the calls and what they say, refusal 1, and how a call is refused or answered.
+#![tactic(auto)]
+
 ghost use Rattle.std.specs.Prelude.{◌≡◌};
 ghost use Rattle.meaning.specs.Calls.{fits as fits_of};
 ghost use Rattle.meaning.specs.Store.{view_of};

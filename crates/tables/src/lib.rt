@@ -1,4 +1,6 @@
 // The live and offset tables: filled from a scratch bitmap, and looked up both ways.
+#![tactic(auto)]
+
 ghost use Rattle.std.specs.Prelude.{◌≡◌, ◌/◌, ◌<◌, ◌≤◌, length};
 ghost use Rattle.meaning.specs.Limits.{block_words, table_entries};
 ghost use Rattle.meaning.specs.Places.{below, marked};

@@ -1,5 +1,7 @@
 // What C is told: a number, 0 where accepted, else the refusal's number + 256 * the place reported; and values in the four words `out`,
 // which stay as found on a refusal.
+#![tactic(auto)]
+
 ghost use Rattle.std.specs.Prelude.{◌+◌, ◌*◌, ◌≡◌, set};
 ghost use Rattle.objects.specs.Examined.{checked_counts};
 ghost use Rattle.tables.specs.Paper.{lookup_answer};

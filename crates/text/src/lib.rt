@@ -1,4 +1,6 @@
 // The lines that the program prints, written into a buffer that the caller lends.
+#![tactic(auto)]
+
 ghost use Rattle.std.specs.Prelude.{◌+◌, ◌*◌, ◌≤◌, ◌++◌, length};
 ghost use Rattle.meaning.specs.Answers.{gives};
 ghost use Rattle.meaning.specs.Text.{digits, decimal, spaced, newline, refused_line, ok_line, lines};

@@ -1,5 +1,7 @@
 // Runs cases from standard input until it ends, and writes a line for each. A case is its length in bytes and then
 // little-endian words: a kind, the lengths, the data. The answers are all the library's.
+#![tactic(auto)]
+
 mod calls;
 mod case;
 mod digest;

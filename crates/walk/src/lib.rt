@@ -1,4 +1,6 @@
 // The one pass over the objects: where it ends, and what it notes of each object on the way.
+#![tactic(auto)]
+
 ghost use Rattle.std.specs.Prelude.{◌≡◌, ◌*◌, ◌<◌, ◌≤◌};
 ghost use Rattle.meaning.specs.Limits.{block_words, table_entries};
 ghost use Rattle.meaning.specs.Objects.{legal_header};

@@ -1,4 +1,6 @@
 // The value word: a small integer, nil or a reference in 32 bits. It is made and read here alone.
+#![tactic(auto)]
+
 ghost use Rattle.std.specs.Prelude.{◌≡◌, cond, ◌/◌};
 ghost use Rattle.meaning.specs.Values.{int, ref, is_ref, value_of, make};
 ghost use Rattle.words.specs.Paper.{shown_value, made_word};

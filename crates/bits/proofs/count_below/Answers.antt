@@ -1,0 +1,25 @@
+-- `bits::count_below` meets its contract: past the end nothing more is counted. Assumes nothing.
+use borrow.Author.Rules.{rules}
+use mathlib.Core.Path.{sym, ◌∙◌}
+use Prim.Native.Nat.{◌*◌, ◌/◌, ◌%◌}
+use lib.ListN.{length, get_or}
+use native.Mathlib.Omega.{arith}
+use Rattle.meaning.specs.Limits.{block_words}
+use Rattle.meaning.specs.Places.{bit_set, marked}
+use Rattle.meaning.proofs.Counting.{below-few, below_flat}
+use Rattle.meaning.proofs.Bitmaps.{marked_out, below_at}
+use Rattle.bits.proofs.count_below.Goals as goal
+
+pub returns-then-map-b : goal.returns-then-map-b
+returns-then-map-b c = let a = c.args in
+    let m = a.map.now in
+    c.count_words.ensures ∙ sym (below_flat (marked m) (block_words * length m) a.p (omega arith) (λ r h l. marked_out m r h))
+
+pub overflow_add-result : goal.overflow_add-result
+overflow_add-result c = let a = c.args in
+    let m = a.map.now in
+    omega (arith, below-few (marked m) (block_words * (a.p / block_words)), below-few (bit_set (get_or m (a.p / block_words) 0)) (a.p % block_words))
+
+pub returns : goal.returns
+returns c = let a = c.args in
+    omega (arith, below_at a.map.now a.p)

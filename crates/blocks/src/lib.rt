@@ -10,7 +10,7 @@ ghost use Rattle.blocks.specs.Cursors.{live_places, HasWord, Dropped, Before, Mo
 use limits::BLOCK_WORDS;
 
 // A place among the live words: word `block` of the live bitmap, of which the set bits in `rest` are left.
-#[derive(Drop)]
+#[derive(Clone, Copy)]
 pub struct Cursor {
     pub block: usize,
     pub rest: u64,

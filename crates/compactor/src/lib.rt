@@ -14,7 +14,7 @@ use objects::Judged;
 use orders::Verdict;
 
 // What preparing ends with: so many live words ready to be moved, or a refusal by 2 to 5, or by 6.
-#[derive(Drop)]
+#[derive(Clone, Copy)]
 pub enum Prepared {
     Ready(usize),
     Unfit(u32, u32),
@@ -22,7 +22,7 @@ pub enum Prepared {
 }
 
 // What the collection answers: the new top, the number of marked objects and the target blocks, or a refusal's number and place.
-#[derive(Drop)]
+#[derive(Clone, Copy)]
 pub enum Collected {
     Done(u32, u32, u32),
     Refused(u32, u32),

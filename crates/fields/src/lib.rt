@@ -14,7 +14,7 @@ use store::{Answer, Said, Store, fits, refused, told};
 use words::{Shown, Word};
 
 // What a slot's word shows: an object by its place, kind and count of words.
-#[derive(Drop)]
+#[derive(Clone, Copy)]
 pub enum Seen {
     Number(i32),
     Empty,
@@ -55,7 +55,7 @@ fn see(heap: &[u32], top: u32, word: u32) -> Seen
 }
 
 // Where the word is in the heap that a call is about, or a refusal's number and place.
-#[derive(Drop)]
+#[derive(Clone, Copy)]
 pub enum Found {
     At(usize),
     No(u32, u32),

@@ -20,7 +20,7 @@ pub const MOST_STEPS: usize = 128;
 pub const MOST_BLOCKS: usize = MOST_WORDS / BLOCK_WORDS;
 
 // The ten words: 1, the top, then start and length for heap, roots, marks and order.
-#[derive(Drop)]
+#[derive(Clone, Copy)]
 pub struct Contents {
     pub kind: u32,
     pub top: u32,
@@ -35,7 +35,7 @@ pub struct Contents {
 }
 
 // A refusal's number (its place is 0), or the contents of a whole image.
-#[derive(Drop)]
+#[derive(Clone, Copy)]
 pub enum Judged {
     Refused(u32),
     Good(Contents),

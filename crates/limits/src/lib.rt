@@ -1,7 +1,6 @@
 // The limits as the code has them: the numbers of meaning's Limits, each once.
 #![tactic(auto)]
 
-
 // Words of a heap, at most.
 pub const HEAP_WORDS: usize = 8192;
 

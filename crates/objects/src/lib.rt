@@ -10,14 +10,14 @@ ghost use Rattle.objects.specs.Examined.{Examined, checked_counts, judged_counts
 use limits::{BLOCK_WORDS, HEAP_WORDS, ROOT_SLOTS, TABLE_ENTRIES};
 
 // What checks 2 to 5 say: the heap is sound, or a refusal's number and place.
-#[derive(Drop)]
+#[derive(Clone, Copy)]
 pub enum Judged {
     Sound,
     Unsound(u32, u32),
 }
 
 // What the check answers: the live words and the number of marked objects, or a refusal's number and place.
-#[derive(Drop)]
+#[derive(Clone, Copy)]
 pub enum Checked {
     Passed(u32, u32),
     Refused(u32, u32),

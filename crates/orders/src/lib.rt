@@ -9,7 +9,7 @@ ghost use Rattle.orders.specs.Entries.{entry_at, step_breaks, length_breaks, ent
 use limits::{BLOCK_WORDS, TABLE_ENTRIES};
 
 // What is said of an order: it keeps the dependences, or breaks at a position.
-#[derive(Drop)]
+#[derive(Clone, Copy)]
 pub enum Verdict {
     Keeps,
     Breaks(usize),

@@ -9,14 +9,14 @@ ghost use Rattle.store.specs.Contract.{mem_of, refused_of, told_of};
 use limits::{HEAP_WORDS, ROOT_SLOTS};
 
 // The small record: the words in use, and the calls answered without refusal.
-#[derive(Drop)]
+#[derive(Clone, Copy)]
 pub struct Store {
     pub top: u32,
     pub calls: u64,
 }
 
 // What a call says. No case holds a place of an object.
-#[derive(Drop)]
+#[derive(Clone, Copy)]
 pub enum Said {
     Done,
     Integer(i32),
@@ -29,14 +29,14 @@ pub enum Said {
     Refused(u32, u32),
 }
 
-#[derive(Drop)]
+#[derive(Clone, Copy)]
 pub struct Answer {
     pub store: Store,
     pub said: Said,
 }
 
 // A call with its numbers, in the order of the functions' parameters. A collection is no such call: it borrows more.
-#[derive(Drop)]
+#[derive(Clone, Copy)]
 pub enum Call {
     PutInt(u32, i32),
     PutNil(u32),

@@ -14,7 +14,7 @@ use limits::{BLOCK_WORDS, HEAP_WORDS, TABLE_ENTRIES};
 use words::Place;
 
 // What a lookup answers: a place; nowhere, for a dead word or a number past the live words; or refused (1).
-#[derive(Drop)]
+#[derive(Clone, Copy)]
 pub enum Lookup {
     At(Place),
     Nowhere,

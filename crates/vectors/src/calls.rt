@@ -7,7 +7,7 @@ use store::{Answer, Call, Said, Store};
 const COLLECT: u32 = 11;
 
 // What a step leaves but for heap and roots: the next step's first word, the record, the answer, the digest so far.
-#[derive(Drop)]
+#[derive(Clone, Copy)]
 struct Passed {
     at: usize,
     store: Store,

@@ -6,22 +6,22 @@ ghost use Rattle.meaning.specs.Values.{int, ref, is_ref, value_of, make};
 ghost use Rattle.words.specs.Paper.{shown_value, made_word};
 
 // A word of the heap or of the roots: a small integer, nil, or a reference.
-#[derive(Drop)]
+#[derive(Clone, Copy)]
 pub struct Word(u32);
 
 // A word's number in the heap. Its own type, so that it is never taken for a value word.
-#[derive(Drop)]
+#[derive(Clone, Copy)]
 pub struct Place(u32);
 
 // A word made, or refused (10) because the value has no word.
-#[derive(Drop)]
+#[derive(Clone, Copy)]
 pub enum Made {
     Is(Word),
     Refused,
 }
 
 // What a word stands for.
-#[derive(Drop)]
+#[derive(Clone, Copy)]
 pub enum Shown {
     Int(i32),
     Nil,

@@ -30,10 +30,10 @@ new-place-requires c κs = let s = c.before.before.before.before.before in
     let e = target_is c in (s.requires.0, omega arith)
 
 new_is : (c : tie.After-new-place) → let s = c.before.before.before.before.before.before in
-    c.new_place_lem.result ≡ below (marked s.args.live.now) (place_of s.args.word)
-new_is c = c.new_place_lem.ensures ∙ ap (below _) (target_is c.before)
+    c.new_place.result ≡ below (marked s.args.live.now) (place_of s.args.word)
+new_is c = c.new_place.ensures ∙ ap (below _) (target_is c.before)
 
-new-low : (c : tie.After-new-place) → c.new_place_lem.result ≤ place_of c.before.before.before.before.before.before.args.word
+new-low : (c : tie.After-new-place) → c.new_place.result ≤ place_of c.before.before.before.before.before.before.args.word
 new-low c = let s = c.before.before.before.before.before.before in
     omega (arith, new_is c, below-few (marked s.args.live.now) (place_of s.args.word))
 

@@ -16,7 +16,7 @@ pub loop-i-preserved : goal.loop-i-preserved
 loop-i-preserved c =
     let l = c.loop-i in
     let a = c.args in (
-      c.put_labelled-p.auto.0 ∙ l.invariant.0,
+      c.put_labelled-p.auto.out ∙ l.invariant.0,
       omega arith,
       words_next _ l.out _ a.words.now a.at l.p _ l.i (omega arith) l.invariant.2 c.put_labelled-p.ensures,
     )

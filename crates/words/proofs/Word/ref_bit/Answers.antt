@@ -1,5 +1,4 @@
 -- `Word::ref_bit` meets its contract: both factors are 0 or 1. Assumes nothing.
-use borrow.Author.Rules.{rules}
 use mathlib.Core.Path.{◌≡◌, refl}
 use mathlib.Core.Logic.{⊎_elim}
 use mathlib.Core.Bool.{Bool, true, false, not, ◌&&◌, cond}

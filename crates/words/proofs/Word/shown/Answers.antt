@@ -1,5 +1,4 @@
 -- `Word::shown` meets its contract: its tests are those of `value_of`, and half a word fits an i32. Assumes nothing.
-use borrow.Author.Rules.{rules}
 use borrow.Author.Tests.{le-ltb, lt-ltb, eq-eqb, ne_eqb}
 use native.Mathlib.Omega.{arith}
 use Prim.Native.Nat.{ℕ, ◌/◌, ◌≤◌, ◌<◌}
@@ -31,7 +30,9 @@ overflow_add-result c = rw (to_z_pos w32 (half (goal.at.overflow_add-result c).T
 pub returns-then-w-eq0 : goal.returns-then-w-eq0
 unfolding value_of
 returns-then-w-eq0 c =
-    rw (to_z-of_z (add-t8 c)) (simp (to_z_pos w32 (half (goal.at.returns-then-w-eq0 c).Then-w-eq0), eq-eqb _ _ c.if-w-eq0.true, le-ltb _ _ c.if-w-lt2147483648.false))
+    let h = half (goal.at.returns-then-w-eq0 c).Then-w-eq0 in
+    let fits = less-fits (c.args.self.0 / 2) 2147483648 h (omega arith) (le_or_lt _ _) in
+    rw (to_z_pos w32 h, to_z-of_z fits) (simp (eq-eqb _ _ c.if-w-eq0.true, le-ltb _ _ c.if-w-lt2147483648.false))
 
 pub returns-then-w : goal.returns-then-w
 unfolding value_of

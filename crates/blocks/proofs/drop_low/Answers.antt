@@ -1,0 +1,27 @@
+-- `blocks::drop_low` meets its contract. The i lowest set bits are dropped. Assumes nothing.
+use borrow.Author.Rules.{rules}
+use mathlib.Core.Path.{◌≡◌}
+use mathlib.Core.Logic.{◌≢◌}
+use Prim.Native.Nat.{◌≤◌, ◌-◌}
+use native.Mathlib.Omega.{arith}
+use Rattle.blocks.specs.Cursors.{Dropped}
+use Rattle.blocks.proofs.DroppedBits.{dropped-start, dropped_next, dropped-some}
+use Rattle.blocks.proofs.drop_low.Goals as goal
+
+pub loop-i-init : goal.loop-i-init
+loop-i-init c = (dropped-start _ c.ranges.word.fits, omega arith)
+
+-- one is left
+module _ (c : tie.In-loop invariant-loop decreases-loop) where
+  some : c.before.loop.rest ≢ 0
+  some = dropped-some _ _ _ (omega arith) c.before.loop.invariant.0
+
+pub overflow_sub-rest : goal.overflow_sub-rest
+overflow_sub-rest c = omega (arith, some c)
+
+pub loop-i-preserved : goal.loop-i-preserved
+loop-i-preserved c = ((dropped_next _ _ _ (some c) c.loop-i.invariant.0).next, omega arith)
+
+pub returns : goal.returns
+returns c = let e : c.loop-i.i ≡ c.args.n = omega arith in
+    rw e at c.loop-i.invariant.0

@@ -1,0 +1,15 @@
+-- `blocks::move_blocks` meets its contract. The steps at the first i positions are done. Assumes nothing.
+use borrow.Author.Rules.{rules}
+use Prim.Native.Nat.{◌-◌, ◌<◌}
+use native.Mathlib.Omega.{arith}
+use lib.ListN.{length, get_or}
+use Rattle.meaning.specs.Limits.{blocks_of}
+use Rattle.blocks.proofs.WordsMoved.{movable-few}
+use Rattle.blocks.proofs.StepsRun.{Running, running_start, running_ready, running_next, running_end}
+use Rattle.blocks.proofs.move_blocks.Given as goal
+
+abbrev pub invariant-loop-i : goal.invariant-loop-i
+invariant-loop-i l = Running l.live l.order l.initial.heap l.total l.heap l.cursor l.next l.i
+
+abbrev pub decreases-loop-i : goal.decreases-loop-i
+decreases-loop-i l = length l.order - l.i

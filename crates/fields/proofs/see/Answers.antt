@@ -1,0 +1,22 @@
+-- `see` meets its contract: case by case. Assumes nothing.
+use mathlib.Core.Path.{ap, sym, ◌∙◌}
+use Rattle.meaning.specs.Values.{value_of}
+use lib.IntN.{ℤ}
+use mir.Syntax.{w32}
+use mir.ValLaws.{to_z-of_z}
+use Rattle.meaning.specs.Calls.{plain, integer}
+use Rattle.words.specs.Paper.{shown_value}
+use borrow.Author.Rules.{rules}
+use Rattle.fields.proofs.see.Goals as goal
+
+pub returns-in-Int : goal.returns-in-Int
+returns-in-Int c =
+    rw (← sym (ap shown_value c.shown-1.given.1) ∙ c.shown-shown.ensures ∙ ap value_of c.from_bits.ensures) (ap (λ (z : ℤ). plain (integer z)) (to_z-of_z w32 c.shown-1.given.0.0 (record { sfits = c.known_told-1.given.0.1 })))
+
+pub returns-in-Nil : goal.returns-in-Nil
+returns-in-Nil c =
+    rw (← sym (ap shown_value c.enum_told-1.given.1) ∙ c.shown-shown.ensures ∙ ap value_of c.from_bits.ensures)
+
+pub returns-in-Ref : goal.returns-in-Ref
+returns-in-Ref c =
+    rw (← sym (ap shown_value c.shown-in-Ref-1.given.1) ∙ c.shown-shown.ensures ∙ ap value_of c.from_bits.ensures, ← c.number.ensures) c.see_object.ensures

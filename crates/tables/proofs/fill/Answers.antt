@@ -1,0 +1,33 @@
+-- `tables::fill` meets its contract. Assumes nothing.
+use borrow.Author.Rules.{rules}
+use native.Mathlib.Omega.{arith}
+use mathlib.Core.Path.{refl}
+use Prim.Native.Nat.{◌*◌, ◌-◌}
+use lib.ListN.{length}
+use Rattle.meaning.specs.Limits.{block_words}
+use Rattle.meaning.specs.Places.{marked}
+use Rattle.meaning.proofs.Counting.{below-few}
+use Rattle.tables.proofs.Filling.{Filling, filling-start, filling-next, filling-end}
+use Rattle.tables.proofs.fill.Goals as goal
+
+pub loop-b-init : goal.loop-b-init
+loop-b-init c = filling-start _ _ c.args.live.now c.args.offsets.now refl c.requires.1
+
+pub overflow_cast-offsets : goal.overflow_cast-offsets
+overflow_cast-offsets c = omega (arith, below-few (marked c.args.words.now) (block_words * c.loop-b.b))
+
+pub overflow_add-sum : goal.overflow_add-sum
+overflow_add-sum c = omega (arith, below-few (marked c.args.words.now) (block_words * c.loop-b.b))
+
+pub loop-b-preserved : goal.loop-b-preserved
+loop-b-preserved c = let l = c.loop-b in
+    filling-next _ _ _ _ _ _ _ (omega arith) (c.type_inv.live l.b).fits c.ones.ensures l.invariant
+
+pub shape_of-live : goal.shape_of-live
+shape_of-live c = c.loop-b.invariant.live-length
+
+pub shape_of-offsets : goal.shape_of-offsets
+shape_of-offsets c = omega arith
+
+pub returns : goal.returns
+returns c = filling-end _ _ _ _ _ _ (omega arith) c.loop-b.invariant

@@ -22,14 +22,14 @@ use Rattle.fields.specs.Fields.{seen_of}
 use Rattle.fields.specs.contracts.Seen.{the_type}
 
 -- what is not stray is judgeable
-pub judged_seen : (s : ℕ) (x : Seen) → OneOf (0 ∷ 1 ∷ 2 ∷ []) (tag_of the_type x) → (p : ℕ) × (judgeable s (seen_of x) ≡ gives p)
+pub judged_seen : (s : ℕ) (x : Seen) → (x ≡ Stray → ⊥) → (p : ℕ) × (judgeable s (seen_of x) ≡ gives p)
 judged_seen s (Number z) h = (0, refl)
 judged_seen s Empty h = (0, refl)
 judged_seen s (Object p k n) h = (p, refl)
-judged_seen s Stray h = absurd (⊎_elim (λ e. omega arith) (λ h. ⊎_elim (λ e. omega arith) (λ e. omega arith) h) h)
+judged_seen s Stray h = absurd (h refl)
 
 -- an ask of what is not stray
-pub leaves-asked : (heap slots : List ℕ) (s : Store) (slot : ℕ) (x : Seen) (a : Said) (r : Answer) → fits (view_of (mem_of heap slots s)) ≡ true → slot < length slots → seen_of x ≡ shown (mem_of heap slots s) slot → OneOf (0 ∷ 1 ∷ 2 ∷ []) (tag_of the_type x) → r ≡ told_of s a → said_of a ≡ gives (asked (seen_of x)) → Leaves (mem_of heap slots s) (answered (mem_of heap slots s) (ask slot)) r heap slots
+pub leaves-asked : (heap slots : List ℕ) (s : Store) (slot : ℕ) (x : Seen) (a : Said) (r : Answer) → fits (view_of (mem_of heap slots s)) ≡ true → slot < length slots → seen_of x ≡ shown (mem_of heap slots s) slot → (x ≡ Stray → ⊥) → r ≡ told_of s a → said_of a ≡ gives (asked (seen_of x)) → Leaves (mem_of heap slots s) (answered (mem_of heap slots s) (ask slot)) r heap slots
 unfolding answered admit
 leaves-asked heap slots s slot x a r f h e t q v =
     rw (f, lt-ltb slot (length slots) h, ← e, (judged_seen slot x t).1, q)

@@ -29,11 +29,11 @@ use Rattle.fields.specs.Fields.{seen_of, no_object, found_of, finding, field_of,
 use Rattle.store.proofs.CallsLeave.{fits-top, leaves-refused, leaves-told}
 
 -- where no object is shown, 13 or 8
-pub no_find : (kind o f : ℕ) (x : Seen) → OneOf (0 ∷ 1 ∷ 3 ∷ []) (tag_of the_type x) → find kind o f (seen_of x) ≡ refused (no_object (seen_of x)) o
+pub no_find : (kind o f : ℕ) (x : Seen) → ((p k n : ℕ) → x ≡ Object p k n → ⊥) → find kind o f (seen_of x) ≡ refused (no_object (seen_of x)) o
 no_find kind o f (Number z) h = refl
 no_find kind o f Empty h = refl
 no_find kind o f Stray h = refl
-no_find kind o f (Object p k n) h = absurd (⊎_elim (λ e. omega arith) (λ h. ⊎_elim (λ e. omega arith) (λ e. omega arith) h) h)
+no_find kind o f (Object p k n) h = absurd (h p k n refl)
 
 need-gives : {A : Type 0} (b : Bool) (n q : ℕ) (x : Answered A) (p : A) → need b n q x ≡ gives p → (b ≡ true) × (x ≡ gives p)
 need-gives true n q x p e = (refl, e)

@@ -17,15 +17,15 @@ use borrow.Author.Rules.{rules}
 use Rattle.births.proofs.birth.Goals as goal
 use Rattle.births.proofs.birth.Goals.{Else-not-fits}
 
-ok : (c : Else-not-fits) → let a = c.before.before.before.before.before.before.args in fits (view_of (mem_of a.heap.now a.roots.now a.store)) ≡ true
-ok c = sym c.fits2.ensures ∙ c.if-not-fits.false
+ok : (c : Else-not-fits) → let a = c.args in fits (view_of (mem_of a.heap.now a.roots.now a.store)) ≡ true
+ok c = sym c.fits.ensures ∙ c.if-not-fits.false
 
-top_in : (c : Else-not-fits) → let a = c.before.before.before.before.before.before.args in (a.store.top ≤ length a.heap.now) × (length a.heap.now ≤ heap_words)
-top_in c = let a = c.before.before.before.before.before.before.args in fits-top (mem_of a.heap.now a.roots.now a.store) (ok c)
+top_in : (c : Else-not-fits) → let a = c.args in (a.store.top ≤ length a.heap.now) × (length a.heap.now ≤ heap_words)
+top_in c = let a = c.args in fits-top (mem_of a.heap.now a.roots.now a.store) (ok c)
 
 pub returns-then-not-fits : goal.returns-then-not-fits
 unfolding born
-returns-then-not-fits c = leaves-refused (rw (← c.fits2.ensures, c.if-not-fits.true)) c.refused.ensures
+returns-then-not-fits c = leaves-refused (rw (← c.fits.ensures, c.if-not-fits.true)) c.refused.ensures
 
 pub returns-then-roots-slot : goal.returns-then-roots-slot
 unfolding born
@@ -34,7 +34,7 @@ returns-then-roots-slot c = leaves-refused (rw (ok (goal.at.returns-then-roots-s
 pub returns-then-k-gt-PAYLOAD_WORDS : goal.returns-then-k-gt-PAYLOAD_WORDS
 unfolding born
 returns-then-k-gt-PAYLOAD_WORDS c =
-    let a = e1.before.before.before.before.before.before.args in
+    let a = c.args in
     leaves-refused (rw (ok (goal.at.returns-then-k-gt-PAYLOAD_WORDS c).Else-not-fits, lt-ltb _ _ c.if-roots-slot.false, lt-leb a.k payload_words (omega arith))) c.refused-then-k-gt-PAYLOAD_WORDS.ensures
 
 pub overflow_sub-heap : goal.overflow_sub-heap
@@ -43,7 +43,7 @@ overflow_sub-heap c = let x = top_in (goal.at.overflow_sub-heap c).Else-not-fits
 pub returns-then-heap-top : goal.returns-then-heap-top
 unfolding born
 returns-then-heap-top c =
-    let a = e1.before.before.before.before.before.before.args in
+    let a = c.args in
     let x = top_in (goal.at.returns-then-heap-top c).Else-not-fits in
     leaves-refused
     (rw (ok (goal.at.returns-then-heap-top c).Else-not-fits, lt-ltb _ _ c.if-roots-slot.false, le-leb a.k payload_words (omega arith), lt-leb (a.store.top + 1 + a.k) (length a.heap.now) (omega arith)))
@@ -65,12 +65,12 @@ pub overflow_add-store-2 : goal.overflow_add-store-2
 overflow_add-store-2 c = let x = top_in (goal.at.overflow_add-store-2 c).Else-not-fits in omega arith
 
 pub shape_of-heap : goal.shape_of-heap
-shape_of-heap c = c.fill.auto.0 ∙ simp length-set
+shape_of-heap c = c.fill.auto.heap ∙ simp length-set
 
 pub returns : goal.returns
 unfolding born
 returns c =
-    let a = e1.before.before.before.before.before.before.args in
+    let a = c.args in
     let x = top_in (goal.at.returns c).Else-not-fits in
     let grows : a.store.top + 1 + a.k ≡ a.store.top + suc a.k = omega arith in
     leaves-born (record { top = a.store.top + 1 + a.k; calls = a.store.calls }) a.slot a.k a.kind a.word

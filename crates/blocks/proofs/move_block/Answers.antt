@@ -10,6 +10,7 @@ use Rattle.meaning.specs.Limits.{block_words}
 use Rattle.meaning.specs.Places.{bit_set}
 use Rattle.blocks.proofs.WordsMoved.{movable-few, Moving, Copied, moving_start, moving-within, moving-word, moving-bit, moving-run, moving_end}
 use Rattle.blocks.proofs.move_block.Goals as goal
+use Rattle.blocks.proofs.move_block.Goals.{After-run_length-k, Else-rest-eq0, Then-rest-eq0}
 
 pub block_end-end-requires : goal.block_end-end-requires
 block_end-end-requires c = (movable-few _ _ _ c.requires.0, c.requires.1)
@@ -21,63 +22,62 @@ pub loop-j-init : goal.loop-j-init
 loop-j-init c = moving_start _ _ _ _ _ c.requires.1 c.requires.2
 
 -- ## The word is used up
-module _ (c : tie.Then1 invariant-loop decreases-loop) where
-  more : c.before.before.loop.block + 1 < length c.before.before.before.before.before.before.args.live.now
-  more = moving-within _ _ _ _ c.before.before.before.before.before.before.requires.0 _ _ _ _ (omega arith) c.before.before.loop.invariant c.if1.true
+module _ (c : Then-rest-eq0) where
+  more : c.loop-j.block + 1 < length c.args.live.now
+  more = moving-within _ _ _ _ c.requires.0 _ _ _ _ (omega arith) c.loop-j.invariant c.if-rest-eq0.true
 
 pub overflow_add-block : goal.overflow_add-block
-overflow_add-block c = omega (arith, more c)
+overflow_add-block c = omega (arith, more (goal.at.overflow_add-block c).Then-rest-eq0)
 
 pub offset_bounds-live-block : goal.offset_bounds-live-block
-offset_bounds-live-block c = omega (arith, more c)
+offset_bounds-live-block c = omega (arith, more (goal.at.offset_bounds-live-block c).Then-rest-eq0)
 
 pub bounds-live-block : goal.bounds-live-block
-bounds-live-block c = more c.before
+bounds-live-block c = more (goal.at.bounds-live-block c).Then-rest-eq0
 
 pub loop-j-smaller-then-rest-eq0 : goal.loop-j-smaller-then-rest-eq0
-loop-j-smaller-then-rest-eq0 c = omega (arith, more c.before)
+loop-j-smaller-then-rest-eq0 c = omega (arith, more (goal.at.loop-j-smaller-then-rest-eq0 c).Then-rest-eq0)
 
 pub loop-j-preserved-then-rest-eq0 : goal.loop-j-preserved-then-rest-eq0
 loop-j-preserved-then-rest-eq0 c =
     moving-word _ _ _ _ c.requires.0 _ _ _ _ (omega arith) c.loop-j.invariant (λ b. (c.type_inv.live b).fits) c.if-rest-eq0.true
 
 -- ## The set bits in a row from its lowest on
-module _ (c : tie.Else1 invariant-loop decreases-loop) where
-  bit : (count_trailing_zeros block_words c.before.before.loop.rest < block_words) × (bit_set c.before.before.loop.rest (count_trailing_zeros block_words c.before.before.loop.rest) ≡ true)
-  bit = moving-bit _ _ _ _ c.before.before.before.before.before.before.requires.0 _ _ _ _ (omega arith) c.before.before.loop.invariant c.if1.false
+module _ (c : Else-rest-eq0) where
+  bit : (count_trailing_zeros block_words c.loop-j.rest < block_words) × (bit_set c.loop-j.rest (count_trailing_zeros block_words c.loop-j.rest) ≡ true)
+  bit = moving-bit _ _ _ _ c.requires.0 _ _ _ _ (omega arith) c.loop-j.invariant c.if-rest-eq0.false
 
 pub overflow_cast-z : goal.overflow_cast-z
-overflow_cast-z c = let b = bit c in omega arith
+overflow_cast-z c = let b = bit (goal.at.overflow_cast-z c).Else-rest-eq0 in omega arith
 
 pub run_length-k-requires : goal.run_length-k-requires
-run_length-k-requires c = let b = bit c in (b.0, b.1, omega arith)
+run_length-k-requires c = let b = bit (goal.at.run_length-k-requires c).Else-rest-eq0 in (b.0, b.1, omega arith)
 
-module _ (c : tie.After-run-length invariant-loop decreases-loop) where
-  copied : Copied c.before.before.before.before.before.before.before.args.live.now c.before.before.before.before.before.before.before.args.heap.now
-      c.before.before.before.before.before.before.before.args.total c.before.before.before.before.before.before.before.args.t
-      c.before.before.before.loop.heap c.before.before.before.loop.block c.before.before.before.loop.rest c.before.before.before.loop.j
-      (count_trailing_zeros block_words c.before.before.before.loop.rest) c.run_length.result
+module _ (c : After-run_length-k) where
+  copied : Copied c.args.live.now c.args.heap.now
+      c.args.total c.args.t
+      c.loop-j.heap c.loop-j.block c.loop-j.rest c.loop-j.j
+      (count_trailing_zeros block_words c.loop-j.rest) c.run_length-k.result
   copied =
-      let l = c.before.before.before in
-      moving-run _ _ _ _ l.before.before.before.before.requires.0 _ _ _ _ (omega arith) l.loop.invariant _ _ (omega arith) c.before.if1.false c.run_length.ensures
+      moving-run _ _ _ _ c.requires.0 _ _ _ _ (omega arith) c.loop-j.invariant _ _ (omega arith) c.if-rest-eq0.false c.run_length-k.ensures
 
 pub overflow_mul-block : goal.overflow_mul-block
-overflow_mul-block c = let w = copied c.before in omega arith
+overflow_mul-block c = let w = copied (goal.at.overflow_mul-block c).After-run_length-k in omega arith
 
 pub overflow_add-block-else-rest-eq0 : goal.overflow_add-block-else-rest-eq0
-overflow_add-block-else-rest-eq0 c = let w = copied c.before in omega arith
+overflow_add-block-else-rest-eq0 c = let w = copied (goal.at.overflow_add-block-else-rest-eq0 c).After-run_length-k in omega arith
 
 pub move_words-requires : goal.move_words-requires
-move_words-requires c = let w = copied c.before in (c.run_length-k.ensures.some, w.source, w.up)
+move_words-requires c = let w = copied (goal.at.move_words-requires c).After-run_length-k in (c.run_length-k.ensures.some, w.source, w.up)
 
 pub overflow_add-z : goal.overflow_add-z
-overflow_add-z c = let w = copied c.before.before.before.before in omega arith
+overflow_add-z c = let w = copied (goal.at.overflow_add-z c).After-run_length-k in omega arith
 
 pub left_from-rest-requires : goal.left_from-rest-requires
-left_from-rest-requires c = let w = copied r in (omega (arith, c.run_length-k.ensures.some), w.within)
+left_from-rest-requires c = let w = copied (goal.at.left_from-rest-requires c).After-run_length-k in (omega (arith, c.run_length-k.ensures.some), w.within)
 
 pub overflow_add-j : goal.overflow_add-j
-overflow_add-j c = let w = copied r in omega arith
+overflow_add-j c = let w = copied (goal.at.overflow_add-j c).After-run_length-k in omega arith
 
 pub loop-j-smaller : goal.loop-j-smaller
 loop-j-smaller c = omega (arith, c.run_length-k.ensures.some, c.run_length-k.ensures.few)
@@ -85,7 +85,7 @@ loop-j-smaller c = omega (arith, c.run_length-k.ensures.some, c.run_length-k.ens
 pub loop-j-preserved : goal.loop-j-preserved
 loop-j-preserved c =
     let m = c.move_words in
-    (copied c.before.before.before.before.before).next _ _ m.auto.0 m.ensures c.left_from-rest.ensures
+    (copied (goal.at.loop-j-preserved c).After-run_length-k).next _ _ m.auto.heap m.ensures c.left_from-rest.ensures
 
 pub shape_of-heap : goal.shape_of-heap
 shape_of-heap c = c.loop-j.invariant.long

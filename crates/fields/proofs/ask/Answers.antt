@@ -12,11 +12,11 @@ use Rattle.fields.proofs.ask.Goals as goal
 use Rattle.fields.proofs.ask.Goals.{Else-not-fits}
 
 ok : (c : Else-not-fits) → let a = c.args in fits (view_of (mem_of a.heap.now a.roots.now a.store)) ≡ true
-ok c = sym c.fits2.ensures ∙ c.if-not-fits.false
+ok c = sym c.fits.ensures ∙ c.if-not-fits.false
 
 pub returns-then-not-fits : goal.returns-then-not-fits
 unfolding answered admit
-returns-then-not-fits c = leaves-refused (rw (← c.fits2.ensures, c.if-not-fits.true)) c.refused.ensures
+returns-then-not-fits c = leaves-refused (rw (← c.fits.ensures, c.if-not-fits.true)) c.refused.ensures
 
 pub returns-then-roots-slot : goal.returns-then-roots-slot
 unfolding answered admit
@@ -30,10 +30,10 @@ see-seen-requires c =
 pub returns-in-Stray : goal.returns-in-Stray
 unfolding answered admit shown
 returns-in-Stray c =
-    leaves-refused (rw (ok (goal.at.returns-in-Stray c).Else-not-fits, lt-ltb _ _ c.if-roots-slot.false, ← c.see-seen.ensures, c.enum_told-1.given.1)) c.refused-in-Stray.ensures
+    leaves-refused (rw (ok (goal.at.returns-in-Stray c).Else-not-fits, lt-ltb _ _ c.if-roots-slot.false, ← c.see-seen.ensures, c.in-Stray.is)) c.refused-in-Stray.ensures
 
 pub returns-in_default : goal.returns-in_default
 unfolding shown
 returns-in_default c =
     let a = c.args in
-    leaves-asked a.heap.now a.roots.now a.store a.slot c.see-seen.result c.asked.result _ (ok (goal.at.returns-in_default c).Else-not-fits) c.if-roots-slot.false c.see-seen.ensures c.in_default.keys2 c.told.ensures c.asked.ensures
+    leaves-asked a.heap.now a.roots.now a.store a.slot c.see-seen.result c.asked.result _ (ok (goal.at.returns-in_default c).Else-not-fits) c.if-roots-slot.false c.see-seen.ensures c.in_default.not-Stray c.told.ensures c.asked.ensures

@@ -10,16 +10,16 @@ use borrow.Author.Rules.{rules}
 use Rattle.fields.proofs.asked.Goals as goal
 
 pub returns-then-kind-eq0 : goal.returns-then-kind-eq0
-returns-then-kind-eq0 c = rw (c.seen-in-Object-1.given.1, eq-eqb _ _ c.if-kind-eq0.true)
+returns-then-kind-eq0 c = rw (c.in-Object.is, eq-eqb _ _ c.if-kind-eq0.true)
 
 pub returns-in-Number : goal.returns-in-Number
-returns-in-Number c = rw c.seen-1.given.1 (ap (λ (z : ℤ). gives (integer z)) (to_z-of_z w32 c.seen-1.given.0.0 (record { sfits = c.known_told-1.given.0.1 })))
+returns-in-Number c = search rules
 
 pub returns-in-Empty : goal.returns-in-Empty
-returns-in-Empty c = rw c.enum_told-1.given.1
+returns-in-Empty c = rw c.in-Empty.is
 
 pub returns-in-Stray : goal.returns-in-Stray
-returns-in-Stray c = rw c.enum_told-in-Stray-1.given.1
+returns-in-Stray c = rw c.in-Stray.is
 
 pub returns-else-kind-eq0 : goal.returns-else-kind-eq0
-returns-else-kind-eq0 c = rw (c.seen-in-Object-1.given.1, ne_eqb _ _ c.if-kind-eq0.false)
+returns-else-kind-eq0 c = rw (c.in-Object.is, ne_eqb _ _ c.if-kind-eq0.false)

@@ -12,11 +12,11 @@ use Rattle.fields.proofs.find.Goals as goal
 use Rattle.fields.proofs.find.Goals.{Else-not-fits}
 
 ok : (c : Else-not-fits) → let a = c.args in fits (view_of (mem_of a.heap.now a.roots.now a.store)) ≡ true
-ok c = sym c.fits2.ensures ∙ c.if-not-fits.false
+ok c = sym c.fits.ensures ∙ c.if-not-fits.false
 
 pub returns-then-not-fits : goal.returns-then-not-fits
 unfolding finding
-returns-then-not-fits c = record { found_is = rw (← c.fits2.ensures, c.if-not-fits.true) }
+returns-then-not-fits c = record { found_is = rw (← c.fits.ensures, c.if-not-fits.true) }
 
 pub returns-then-roots-object : goal.returns-then-roots-object
 unfolding finding

@@ -9,15 +9,15 @@ use Rattle.fields.proofs.locate.Goals as goal
 pub returns-in_default : goal.returns-in_default
 returns-in_default c =
     let a = c.args in
-    rw (no_find a.kind a.object a.field a.seen c.in_default.keys2, c.no_object.ensures)
+    rw (no_find a.kind a.object a.field a.seen c.in_default.not-Object, c.no_object.ensures)
 
 pub returns-then-found-kind : goal.returns-then-found-kind
-returns-then-found-kind c = rw (c.seen-1.given.1, ne_eqb _ _ c.if-found-kind.true)
+returns-then-found-kind c = rw (c.in-Object.is, ne_eqb _ _ c.if-found-kind.true)
 
 pub returns-then-count-field : goal.returns-then-count-field
 returns-then-count-field c =
-    rw (c.seen-1.given.1, eq-eqb _ _ c.if-found-kind.false, le-ltb c.args.field c.seen-1.given.0.1.1.0 (omega arith))
+    rw (c.in-Object.is, eq-eqb _ _ c.if-found-kind.false, le-ltb c.args.field c.in-Object.count (omega arith))
 
 pub returns : goal.returns
 returns c =
-    rw (c.seen-1.given.1, eq-eqb _ _ c.if-found-kind.false, lt-ltb c.args.field c.seen-1.given.0.1.1.0 (omega arith), add-one c.seen-1.given.0.0)
+    rw (c.in-Object.is, eq-eqb _ _ c.if-found-kind.false, lt-ltb c.args.field c.in-Object.count (omega arith), add-one c.in-Object.place)

@@ -9,14 +9,10 @@ use Rattle.words.specs.Paper.{shown_value}
 use borrow.Author.Rules.{rules}
 use Rattle.fields.proofs.see.Goals as goal
 
-pub returns-in-Int : goal.returns-in-Int
-returns-in-Int c =
-    rw (← sym (ap shown_value c.shown-1.given.1) ∙ c.shown-shown.ensures ∙ ap value_of c.from_bits.ensures) (ap (λ (z : ℤ). plain (integer z)) (to_z-of_z w32 c.shown-1.given.0.0 (record { sfits = c.known_told-1.given.0.1 })))
-
 pub returns-in-Nil : goal.returns-in-Nil
 returns-in-Nil c =
-    rw (← sym (ap shown_value c.enum_told-1.given.1) ∙ c.shown-shown.ensures ∙ ap value_of c.from_bits.ensures)
+    rw (← sym (ap shown_value c.in-Nil.is) ∙ c.shown-shown.ensures ∙ ap value_of c.from_bits.ensures)
 
 pub returns-in-Ref : goal.returns-in-Ref
 returns-in-Ref c =
-    rw (← sym (ap shown_value c.shown-in-Ref-1.given.1) ∙ c.shown-shown.ensures ∙ ap value_of c.from_bits.ensures, ← c.number.ensures) c.see_object.ensures
+    rw (← sym (ap shown_value c.in-Ref.is) ∙ c.shown-shown.ensures ∙ ap value_of c.from_bits.ensures, ← c.number.ensures) c.see_object.ensures

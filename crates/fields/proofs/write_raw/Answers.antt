@@ -9,17 +9,17 @@ use borrow.Author.Rules.{rules}
 use Rattle.fields.proofs.write_raw.Goals as goal
 
 pub offset_bounds-heap-at : goal.offset_bounds-heap-at
-offset_bounds-heap-at c = let x = found_at c.find-found.ensures c.found-in-At-1.given.1 in omega arith
+offset_bounds-heap-at c = let x = found_at c.find-found.ensures c.in-At.is in omega arith
 
 pub bounds-heap-at : goal.bounds-heap-at
-bounds-heap-at c = let x = found_at c.find-found.ensures c.found-in-At-1.given.1 in omega arith
+bounds-heap-at c = let x = found_at c.find-found.ensures c.in-At.is in omega arith
 
 pub returns-in-No : goal.returns-in-No
 unfolding admit
-returns-in-No c = leaves_unfound (write_raw _ _ _) (finding-once _ _ _ _) c.find-found.ensures c.found-1.given.1 c.refused.ensures
+returns-in-No c = leaves_unfound (write_raw _ _ _) (finding-once _ _ _ _) c.find-found.ensures c.in-No.is c.refused.ensures
 
 pub returns-in-At : goal.returns-in-At
 unfolding admit
 returns-in-At c =
-    let a = k.before.before.before.before.before.before.args in
-    leaves-found a.store (write_raw _ _ _) (λ (m : Mem) (w : ℕ). with_word m w a.word) (finding-once _ _ _ _) c.find-found.ensures c.found-in-At-1.given.1 (λ p. refl) c.told.ensures refl refl
+    let a = c.args in
+    leaves-found a.store (write_raw _ _ _) (λ (m : Mem) (w : ℕ). with_word m w a.word) (finding-once _ _ _ _) c.find-found.ensures c.in-At.is (λ p. refl) c.told.ensures refl refl

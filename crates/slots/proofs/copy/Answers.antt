@@ -11,12 +11,12 @@ use borrow.Author.Rules.{rules}
 use Rattle.slots.proofs.copy.Goals as goal
 use Rattle.slots.proofs.copy.Goals.{Else-not-fits}
 
-ok : (c : Else-not-fits) → let a = c.before.before.before.before.before.args in fits (view_of (mem_of a.heap.now a.roots.now a.store)) ≡ true
-ok c = sym c.fits2.ensures ∙ c.if-not-fits.false
+ok : (c : Else-not-fits) → let a = c.args in fits (view_of (mem_of a.heap.now a.roots.now a.store)) ≡ true
+ok c = sym c.fits.ensures ∙ c.if-not-fits.false
 
 pub returns-then-not-fits : goal.returns-then-not-fits
 unfolding answered admit
-returns-then-not-fits c = leaves-refused (rw (← c.fits2.ensures, c.if-not-fits.true)) c.refused.ensures
+returns-then-not-fits c = leaves-refused (rw (← c.fits.ensures, c.if-not-fits.true)) c.refused.ensures
 
 pub returns-then-roots-source : goal.returns-then-roots-source
 unfolding answered admit
@@ -28,4 +28,4 @@ returns-then-roots-target c = leaves-refused (rw (ok (goal.at.returns-then-roots
 
 pub returns : goal.returns
 unfolding answered admit
-returns c = leaves-told c.before.before.before.before.before.before.before.before.before.args.store Done (rw (ok (goal.at.returns c).Else-not-fits, lt-ltb _ _ c.if-roots-source.false, lt-ltb _ _ c.if-roots-target.false)) c.told.ensures refl refl
+returns c = leaves-told c.args.store Done (rw (ok (goal.at.returns c).Else-not-fits, lt-ltb _ _ c.if-roots-source.false, lt-ltb _ _ c.if-roots-target.false)) c.told.ensures refl refl

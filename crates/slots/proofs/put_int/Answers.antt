@@ -17,12 +17,12 @@ use borrow.Author.Rules.{rules}
 use Rattle.slots.proofs.put_int.Goals as goal
 use Rattle.slots.proofs.put_int.Goals.{Else-not-fits}
 
-ok : (c : Else-not-fits) → let a = c.before.before.before.before.before.args in fits (view_of (mem_of a.heap.now a.roots.now a.store)) ≡ true
-ok c = sym c.fits2.ensures ∙ c.if-not-fits.false
+ok : (c : Else-not-fits) → let a = c.args in fits (view_of (mem_of a.heap.now a.roots.now a.store)) ≡ true
+ok c = sym c.fits.ensures ∙ c.if-not-fits.false
 
 pub returns-then-not-fits : goal.returns-then-not-fits
 unfolding answered admit
-returns-then-not-fits c = leaves-refused (rw (← c.fits2.ensures, c.if-not-fits.true)) c.refused.ensures
+returns-then-not-fits c = leaves-refused (rw (← c.fits.ensures, c.if-not-fits.true)) c.refused.ensures
 
 pub returns-then-roots-slot : goal.returns-then-roots-slot
 unfolding answered admit
@@ -31,15 +31,15 @@ returns-then-roots-slot c = leaves-refused (rw (ok (goal.at.returns-then-roots-s
 pub returns-in_default : goal.returns-in_default
 unfolding answered admit
 returns-in_default c =
-    let v = s.args.value in
+    let v = c.args.value in
     leaves-refused
-    (rw (ok (goal.at.returns-in_default c).Else-not-fits, lt-ltb _ _ c.if-roots-slot.false, made_refused (int v) (sym (ap made_word c.enum_told-1.given.1) ∙ c.of_int-made.ensures ∙ ap (λ (z : ℤ). make (int z)) (to_z-of_z w32 v s.ranges.value))))
+    (rw (ok (goal.at.returns-in_default c).Else-not-fits, lt-ltb _ _ c.if-roots-slot.false, made_refused (int v) (sym (ap made_word c.in_default.is) ∙ c.of_int-made.ensures ∙ ap (λ (z : ℤ). make (int z)) (to_z-of_z w32 v c.ranges.value))))
     c.refused-in_default.ensures
 
 pub returns : goal.returns
 unfolding answered admit
 returns c =
-    let v = s.args.value in
-    let m = made_is (int v) c.made-1.given.0.0.0 (sym (ap made_word c.made-1.given.1) ∙ c.of_int-made.ensures ∙ ap (λ (z : ℤ). make (int z)) (to_z-of_z w32 v s.ranges.value)) in
+    let v = c.args.value in
+    let m = made_is (int v) c.in-Is.word.0 (sym (ap made_word c.in-Is.is) ∙ c.of_int-made.ensures ∙ ap (λ (z : ℤ). make (int z)) (to_z-of_z w32 v c.ranges.value)) in
     rw (c.bits.ensures ∙ m.1)
-    (leaves-told s.args.store Done (rw (ok (goal.at.returns c).Else-not-fits, lt-ltb _ _ c.if-roots-slot.false, m.0)) c.told.ensures refl refl)
+    (leaves-told c.args.store Done (rw (ok (goal.at.returns c).Else-not-fits, lt-ltb _ _ c.if-roots-slot.false, m.0)) c.told.ensures refl refl)

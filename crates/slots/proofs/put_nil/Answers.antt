@@ -11,12 +11,12 @@ use borrow.Author.Rules.{rules}
 use Rattle.slots.proofs.put_nil.Goals as goal
 use Rattle.slots.proofs.put_nil.Goals.{Else-not-fits}
 
-ok : (c : Else-not-fits) → let a = c.before.before.before.before.before.args in fits (view_of (mem_of a.heap.now a.roots.now a.store)) ≡ true
-ok c = sym c.fits2.ensures ∙ c.if-not-fits.false
+ok : (c : Else-not-fits) → let a = c.args in fits (view_of (mem_of a.heap.now a.roots.now a.store)) ≡ true
+ok c = sym c.fits.ensures ∙ c.if-not-fits.false
 
 pub returns-then-not-fits : goal.returns-then-not-fits
 unfolding answered admit
-returns-then-not-fits c = leaves-refused (rw (← c.fits2.ensures, c.if-not-fits.true)) c.refused.ensures
+returns-then-not-fits c = leaves-refused (rw (← c.fits.ensures, c.if-not-fits.true)) c.refused.ensures
 
 pub returns-then-roots-slot : goal.returns-then-roots-slot
 unfolding answered admit
@@ -26,4 +26,4 @@ pub returns : goal.returns
 unfolding answered admit
 returns c =
     rw c.bits.ensures
-    (leaves-told b.before.before.before.before.before.before.args.store Done (rw (ok (goal.at.returns c).Else-not-fits, lt-ltb _ _ c.if-roots-slot.false)) c.told.ensures refl refl)
+    (leaves-told c.args.store Done (rw (ok (goal.at.returns c).Else-not-fits, lt-ltb _ _ c.if-roots-slot.false)) c.told.ensures refl refl)

@@ -1,5 +1,7 @@
 -- `search::first_bad_in` meets its contract. Assumes nothing.
 use borrow.Author.Rules.{rules}
+use mathlib.Core.Path.{ap}
+use mathlib.Core.Bool.{not}
 use Prim.Native.Nat.{ℕ, ◌+◌, ◌*◌, ◌<◌}
 use lib.Count.{count_trailing_zeros}
 use Rattle.meaning.specs.Limits.{block_words}
@@ -39,13 +41,13 @@ pub target_marked-requires : goal.target_marked-requires
 target_marked-requires c = (next (goal.at.target_marked-requires c).In-loop-left).1.1
 
 pub returns-then-not-target_marked : goal.returns-then-not-target_marked
-returns-then-not-target_marked c = searching_found _ _ _ _ c.loop-left-test.true (rw (← c.target_marked.ensures) c.if-not-target_marked.true) c.loop-left.invariant
+returns-then-not-target_marked c = searching_found _ _ _ _ c.loop-left-test.true (rw (← c.target_marked.ensures) (ap not c.if-not-target_marked.true)) c.loop-left.invariant
 
 pub loop-left-smaller : goal.loop-left-smaller
 loop-left-smaller c = lowest_less _ c.loop-left-test.true
 
 pub loop-left-preserved : goal.loop-left-preserved
-loop-left-preserved c = searching_next _ _ _ _ c.loop-left-test.true (rw (← c.target_marked.ensures) c.if-not-target_marked.false) c.loop-left.invariant
+loop-left-preserved c = searching_next _ _ _ _ c.loop-left-test.true (rw (← c.target_marked.ensures) (ap not c.if-not-target_marked.false)) c.loop-left.invariant
 
 pub returns : goal.returns
 returns c = searching_end _ _ _ _ c.loop-left-test.false c.loop-left.invariant

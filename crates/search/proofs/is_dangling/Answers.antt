@@ -12,7 +12,7 @@ told : (c : After-is_ref) → is_ref c.args.word ≡ c.is_ref.result
 told c = sym (c.is_ref.ensures ∙ ap is_ref c.from_bits.ensures)
 
 is : (c : Else-not-is_ref) → is_ref c.args.word ≡ true
-is c = told (HELPER_AT c After-is_ref) ∙ c.if-not-is_ref.false
+is c = sym (c.is_ref.ensures ∙ ap is_ref c.from_bits.ensures) ∙ c.if-not-is_ref.false
 
 pub returns-then-not-is_ref : goal.returns-then-not-is_ref
 returns-then-not-is_ref c = rw (told (goal.at.returns-then-not-is_ref c).After-is_ref, c.if-not-is_ref.true)

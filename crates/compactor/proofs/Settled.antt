@@ -7,6 +7,7 @@ use Prim.Native.Nat.{ℕ}
 use lib.ListN.{get_or}
 use contract.Lifetimes.{Lfts}
 use denote.Ref.{Bor}
+use denote.MutBor.{MutBor}
 use Rattle.meaning.specs.Answers.{Answer, gives, refused}
 use Rattle.meaning.specs.Places.{below, marked}
 use Rattle.meaning.specs.Objects.{Object, all, parse}
@@ -54,20 +55,20 @@ same_ends c d r s h h' t t' m m' l l' o o' e p q = record {
   offsets_same = p.offsets_are ∙ ap (λ (a : After). a.offsets) e ∙ sym q.offsets_are;
 }
 
-module _ (κs : Lfts 6) (heap : Bor (List ℕ)) (top : ℕ) (roots marks live offsets : Bor (List ℕ)) where
+module _ (κs : Lfts 6) (heap : MutBor (List ℕ)) (top : ℕ) (roots marks live offsets : MutBor (List ℕ)) where
   -- the call with an order ends with answer r, and the buffers hold h, t, m, l and o
-  abbrev pub Collect : Bor (List ℕ) → Collected → Bor (List ℕ) → Bor (List ℕ) → Bor (List ℕ) → Bor (List ℕ) → Bor (List ℕ) → Type 0
+  abbrev pub Collect : Bor (List ℕ) → Collected → MutBor (List ℕ) → MutBor (List ℕ) → MutBor (List ℕ) → MutBor (List ℕ) → MutBor (List ℕ) → Type 0
   Collect order r h t m l o =
       collect.Post κs (heap, (top, (roots, (marks, (order, (live, (offsets, tt))))))) r (h, (top, (t, (m, (order, (l, (o, tt)))))))
 
   -- two ends of one call are the same
-  pub collect_settled : (order : Bor (List ℕ)) (r s : Collected) (h h' t t' m m' l l' o o' : Bor (List ℕ))
+  pub collect_settled : (order : Bor (List ℕ)) (r s : Collected) (h h' t t' m m' l l' o o' : MutBor (List ℕ))
       → Collect order r h t m l o → Collect order s h' t' m' l' o'
       → Same r s h.now h'.now t.now t'.now m.now m'.now l.now l'.now o.now o'.now
   collect_settled order r s h h' t t' m m' l l' o o' p q = same_ends _ _ r s _ _ _ _ _ _ _ _ _ _ refl p q
 
   -- and so are the ends of two calls whose orders are accepted
-  pub orders_settled : (order order' : Bor (List ℕ)) (L n b L' n' b' : ℕ) (h h' t t' m m' l l' o o' : Bor (List ℕ))
+  pub orders_settled : (order order' : Bor (List ℕ)) (L n b L' n' b' : ℕ) (h h' t t' m m' l l' o o' : MutBor (List ℕ))
       → Collect order (Done L n b) h t m l o → Collect order' (Done L' n' b') h' t' m' l' o'
       → Same (Done L n b) (Done L' n' b') h.now h'.now t.now t'.now m.now m'.now l.now l'.now o.now o'.now
   orders_settled order order' L n b L' n' b' h h' t t' m m' l l' o o' p q =
@@ -75,7 +76,7 @@ module _ (κs : Lfts 6) (heap : Bor (List ℕ)) (top : ℕ) (roots marks live of
       (orders_agree heap.now top roots.now marks.now live.now offsets.now order.now order'.now _ _ (sym p.answer_is) (sym q.answer_is)) p q
 
   -- ## After a success, where the heap parsed to os
-  module _ (order : Bor (List ℕ)) (L n b : ℕ) (h t m l o : Bor (List ℕ)) (end : Collect order (Done L n b) h t m l o)
+  module _ (order : Bor (List ℕ)) (L n b : ℕ) (h t m l o : MutBor (List ℕ)) (end : Collect order (Done L n b) h t m l o)
       (os : List Object) (parsed : parse heap.now top ≡ all os) where
     done : (on_paper heap.now top roots.now marks.now order.now live.now offsets.now).answer ≡ gives (record { top = L; objects = n; blocks = b })
     done = sym end.answer_is

@@ -18,81 +18,57 @@ use Rattle.compactor.proofs.Collecting.{collects_unfit, collects_unsound, collec
 use Rattle.compactor.proofs.collect.Goals as goal
 use Rattle.compactor.proofs.collect.Goals.{Else-not-sizes_fit, Else-not-tables_fit}
 
-abbrev heap : tie.Start → List ℕ
-heap c = c.args.heap.now
-
-abbrev roots : tie.Start → List ℕ
-roots c = c.args.roots.now
-
-abbrev marks : tie.Start → List ℕ
-marks c = c.args.marks.now
-
-abbrev order : tie.Start → List ℕ
-order c = c.args.order.now
-
-abbrev live : tie.Start → List ℕ
-live c = c.args.live.now
-
-abbrev offsets : tie.Start → List ℕ
-offsets c = c.args.offsets.now
-
-abbrev start : tie.Else1 → tie.Start
-start c = c.before.before.before.before.before.before.before.before.before.before.before
-
-sizes-fit : (c : Else-not-sizes_fit) → (let s = start c in sizes_fit (heap s) s.args.top (roots s) (marks s) ≡ true)
+sizes-fit : (c : Else-not-sizes_fit) → sizes_fit c.args.heap.now c.args.top c.args.roots.now c.args.marks.now ≡ true
 sizes-fit c = sym c.sizes_fit.ensures ∙ c.if-not-sizes_fit.false
 
 -- refused by 1
 pub returns-then-not-sizes_fit : goal.returns-then-not-sizes_fit
 returns-then-not-sizes_fit c =
-    let e : sizes_fit (heap s) c.args.top (roots s) (marks s) ≡ false = sym c.sizes_fit.ensures ∙ c.if-not-sizes_fit.true in
-    collects_unfit (heap s) c.args.top (roots s) (marks s) (order s) (live s) (offsets s) (rw e)
+    let a = c.args in
+    let e : sizes_fit a.heap.now a.top a.roots.now a.marks.now ≡ false = sym c.sizes_fit.ensures ∙ c.if-not-sizes_fit.true in
+    collects_unfit a.heap.now a.top a.roots.now a.marks.now a.order.now a.live.now a.offsets.now (rw e)
 
 pub tables_fit-requires : goal.tables_fit-requires
-tables_fit-requires c = let s = start e in (sizes (heap s) s.args.top (roots s) (marks s) (sizes-fit (goal.at.tables_fit-requires c).Else-not-sizes_fit)).small
+tables_fit-requires c =
+    let a = c.args in
+    (sizes a.heap.now a.top a.roots.now a.marks.now (sizes-fit (goal.at.tables_fit-requires c).Else-not-sizes_fit)).small
 
 pub returns-then-not-tables_fit : goal.returns-then-not-tables_fit
 returns-then-not-tables_fit c =
-    let s = start e in
-    let u : tables_fit (heap s) (order s) (live s) (offsets s) ≡ false = sym c.tables_fit.ensures ∙ c.if-not-tables_fit.true in
-    collects_unfit (heap s) s.args.top (roots s) (marks s) (order s) (live s) (offsets s) (rw (sizes-fit (goal.at.returns-then-not-tables_fit c).Else-not-sizes_fit, u))
+    let a = c.args in
+    let u : tables_fit a.heap.now a.order.now a.live.now a.offsets.now ≡ false = sym c.tables_fit.ensures ∙ c.if-not-tables_fit.true in
+    collects_unfit a.heap.now a.top a.roots.now a.marks.now a.order.now a.live.now a.offsets.now
+    (rw (sizes-fit (goal.at.returns-then-not-tables_fit c).Else-not-sizes_fit, u))
 
 -- past refusal 1
-fit : (c : Else-not-tables_fit) → (let s = start c.before.before.before.before.before in Fit (heap s) s.args.top (roots s) (marks s) (order s) (live s) (offsets s) (replicate table_entries 0))
-fit c = record { sizes = sizes-fit (HELPER_AT c Else-not-sizes_fit); tables = sym c.tables_fit.ensures ∙ c.if-not-tables_fit.false; blank = marked_zeros table_entries }
+fit : (c : Else-not-tables_fit) → let a = c.args in Fit a.heap.now a.top a.roots.now a.marks.now a.order.now a.live.now a.offsets.now (replicate table_entries 0)
+fit c = record {
+  sizes = sym c.sizes_fit.ensures ∙ c.if-not-sizes_fit.false;
+  tables = sym c.tables_fit.ensures ∙ c.if-not-tables_fit.false;
+  blank = marked_zeros table_entries;
+}
 
 pub prepare-prepared-requires : goal.prepare-prepared-requires
 prepare-prepared-requires c = fit (goal.at.prepare-prepared-requires c).Else-not-tables_fit
 
--- what preparing said
-abbrev passed : tie.After-slice-known7 → tie.Else2
-passed k = k.before.before.before.before.before.before.before.before.before.before.before
-
-said : (k : tie.After-slice-known7) (r : Prepared) → k.before.before.before.before.prepare.result ≡ r
-    → (let s = start (passed k).before.before.before.before.before in let p = k.before.before.before.before.prepare in
-    PreparedAs (heap s) s.args.top (roots s) (marks s) (order s) (live s) (offsets s) p.new.1.1.1.1.1.0 p.new.1.1.1.1.1.1.0 p.new.1.1.1.1.1.1.1.0 r)
-said k r e =
-    let s = start (passed k).before.before.before.before.before in
-    let p = k.before.before.before.before.prepare in
-    prepared_as (heap s) s.args.top (roots s) (marks s) (order s) (live s) (offsets s) p.new.1.1.1.1.1.0 p.new.1.1.1.1.1.1.0 p.new.1.1.1.1.1.1.1.0 p.result r e p.ensures
-
 pub overflow_cast-result : goal.overflow_cast-result
 overflow_cast-result c =
-    record { fits = omega (arith, misordered_low (fit (passed k)) (said k _ c.in-Misordered.is)) }
+    let low = misordered_low (fit (goal.at.overflow_cast-result c).Else-not-tables_fit) c.in-Misordered.ensures in
+    record { fits = omega arith }
 
 pub finish-requires : goal.finish-requires
-finish-requires c = sorted_finishable (fit (passed k)) (said k _ c.in-Ready.is)
+finish-requires c = sorted_finishable (fit (goal.at.finish-requires c).Else-not-tables_fit) c.in-Ready.ensures
 
 -- refused by 2 to 5
 pub returns-in-Unfit : goal.returns-in-Unfit
 returns-in-Unfit c =
-    let (refusal, l, o) = said k _ c.in-Unfit.is in
-    collects_unsound (fit (passed k)) _ _ _ _ refusal l o
+    let (refusal, l, o) = c.in-Unfit.ensures in
+    collects_unsound (fit (goal.at.returns-in-Unfit c).Else-not-tables_fit) _ _ _ _ refusal l o
 
 -- refused by 6
 pub returns-in-Misordered : goal.returns-in-Misordered
-returns-in-Misordered c = collects_misordered (fit (passed k)) _ _ _ _ (said k _ c.in-Misordered.is)
+returns-in-Misordered c = collects_misordered (fit (goal.at.returns-in-Misordered c).Else-not-tables_fit) _ _ _ _ c.in-Misordered.ensures
 
 -- accepted
 pub returns-in-Ready : goal.returns-in-Ready
-returns-in-Ready c = collects-done (fit (passed k)) (said k _ c.in-Ready.is) c.finish.ensures
+returns-in-Ready c = collects-done (fit (goal.at.returns-in-Ready c).Else-not-tables_fit) c.in-Ready.ensures c.finish.ensures

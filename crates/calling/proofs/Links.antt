@@ -1,5 +1,5 @@
 -- A call made by its own function is a link of a sequence as one made by `answer` is. Assumes nothing.
-use Rattle.std.proofs.Common.{ℕ, List, ℤ, Bor}
+use Rattle.std.proofs.Common.{ℕ, List, ℤ, Bor, MutBor}
 use contract.Lifetimes.{Lfts}
 use Rattle.store.specs.declared.Store.{Store}
 use Rattle.store.specs.declared.Answer.{Answer}
@@ -18,43 +18,51 @@ use Rattle.fields.proofs.write_field.Reads as write-field
 use Rattle.fields.proofs.read_raw.Reads as read-raw
 use Rattle.fields.proofs.write_raw.Reads as write-raw
 
-module _ (κs : Lfts 2) (store : Store) (heap roots : Bor (List ℕ)) (r : Answer) where
-  abbrev given : Lent
-  given = record { store = store; heap = heap.now; slots = roots.now }
+module _ (κs : Lfts 2) (store : Store) (r : Answer) where
+  abbrev given : List ℕ → List ℕ → Lent
+  given heap slots = record { store = store; heap = heap; slots = slots }
 
-  -- the call k leaves the answer r, this heap and these slots
-  abbrev Linked : Call → Bor (List ℕ) → Bor (List ℕ) → Type 0
-  Linked k h t = Answers given k (record { answer = r; heap = h.now; slots = t.now })
+  -- over this heap and these slots the call k leaves the answer r, the heap h and the slots t
+  abbrev Linked : List ℕ → List ℕ → Call → List ℕ → List ℕ → Type 0
+  Linked heap slots k h t = Answers (given heap slots) k (record { answer = r; heap = h; slots = t })
 
-  pub put_int_link : (slot : ℕ) (value : ℤ) (t : Bor (List ℕ)) → put-int.Post κs (store, (heap, (roots, (slot, (value, tt))))) r (store, (heap, (t, (slot, (value, tt))))) → Linked (PutInt slot value) heap t
-  put_int_link slot value t p = leaves_link given (PutInt slot value) _ p
+  -- heap and slots lent to be changed
+  module _ (heap roots : MutBor (List ℕ)) where
+    pub new_record_link : (slot k : ℕ) (h t : MutBor (List ℕ)) → new-record.Post κs (store, (heap, (roots, (slot, (k, tt))))) r (store, (h, (t, (slot, (k, tt))))) → Linked heap.now roots.now (NewRecord slot k) h.now t.now
+    new_record_link slot k h t p = leaves_link (given heap.now roots.now) (NewRecord slot k) _ p
 
-  pub put_nil_link : (slot : ℕ) (t : Bor (List ℕ)) → put-nil.Post κs (store, (heap, (roots, (slot, tt)))) r (store, (heap, (t, (slot, tt)))) → Linked (PutNil slot) heap t
-  put_nil_link slot t p = leaves_link given (PutNil slot) _ p
+    pub new_raw_link : (slot k : ℕ) (h t : MutBor (List ℕ)) → new-raw.Post κs (store, (heap, (roots, (slot, (k, tt))))) r (store, (h, (t, (slot, (k, tt))))) → Linked heap.now roots.now (NewRaw slot k) h.now t.now
+    new_raw_link slot k h t p = leaves_link (given heap.now roots.now) (NewRaw slot k) _ p
 
-  pub copy_link : (source target : ℕ) (t : Bor (List ℕ)) → copy.Post κs (store, (heap, (roots, (source, (target, tt))))) r (store, (heap, (t, (source, (target, tt))))) → Linked (Copy source target) heap t
-  copy_link source target t p = leaves_link given (Copy source target) _ p
+  -- the slots lent to be changed
+  module _ (heap : Bor (List ℕ)) (roots : MutBor (List ℕ)) where
+    pub put_int_link : (slot : ℕ) (value : ℤ) (t : MutBor (List ℕ)) → put-int.Post κs (store, (heap, (roots, (slot, (value, tt))))) r (store, (heap, (t, (slot, (value, tt))))) → Linked heap.now roots.now (PutInt slot value) heap.now t.now
+    put_int_link slot value t p = leaves_link (given heap.now roots.now) (PutInt slot value) _ p
 
-  pub new_record_link : (slot k : ℕ) (h t : Bor (List ℕ)) → new-record.Post κs (store, (heap, (roots, (slot, (k, tt))))) r (store, (h, (t, (slot, (k, tt))))) → Linked (NewRecord slot k) h t
-  new_record_link slot k h t p = leaves_link given (NewRecord slot k) _ p
+    pub put_nil_link : (slot : ℕ) (t : MutBor (List ℕ)) → put-nil.Post κs (store, (heap, (roots, (slot, tt)))) r (store, (heap, (t, (slot, tt)))) → Linked heap.now roots.now (PutNil slot) heap.now t.now
+    put_nil_link slot t p = leaves_link (given heap.now roots.now) (PutNil slot) _ p
 
-  pub new_raw_link : (slot k : ℕ) (h t : Bor (List ℕ)) → new-raw.Post κs (store, (heap, (roots, (slot, (k, tt))))) r (store, (h, (t, (slot, (k, tt))))) → Linked (NewRaw slot k) h t
-  new_raw_link slot k h t p = leaves_link given (NewRaw slot k) _ p
+    pub copy_link : (source target : ℕ) (t : MutBor (List ℕ)) → copy.Post κs (store, (heap, (roots, (source, (target, tt))))) r (store, (heap, (t, (source, (target, tt))))) → Linked heap.now roots.now (Copy source target) heap.now t.now
+    copy_link source target t p = leaves_link (given heap.now roots.now) (Copy source target) _ p
 
-  pub read_field_link : (o f target : ℕ) (t : Bor (List ℕ)) → read-field.Post κs (store, (heap, (roots, (o, (f, (target, tt)))))) r (store, (heap, (t, (o, (f, (target, tt)))))) → Linked (ReadField o f target) heap t
-  read_field_link o f target t p = leaves_link given (ReadField o f target) _ p
+    pub read_field_link : (o f target : ℕ) (t : MutBor (List ℕ)) → read-field.Post κs (store, (heap, (roots, (o, (f, (target, tt)))))) r (store, (heap, (t, (o, (f, (target, tt)))))) → Linked heap.now roots.now (ReadField o f target) heap.now t.now
+    read_field_link o f target t p = leaves_link (given heap.now roots.now) (ReadField o f target) _ p
 
-  pub write_field_link : (o f source : ℕ) (h : Bor (List ℕ)) → write-field.Post κs (store, (heap, (roots, (o, (f, (source, tt)))))) r (store, (h, (roots, (o, (f, (source, tt)))))) → Linked (WriteField o f source) h roots
-  write_field_link o f source h p = leaves_link given (WriteField o f source) _ p
+  -- the heap lent to be changed
+  module _ (heap : MutBor (List ℕ)) (roots : Bor (List ℕ)) where
+    pub write_field_link : (o f source : ℕ) (h : MutBor (List ℕ)) → write-field.Post κs (store, (heap, (roots, (o, (f, (source, tt)))))) r (store, (h, (roots, (o, (f, (source, tt)))))) → Linked heap.now roots.now (WriteField o f source) h.now roots.now
+    write_field_link o f source h p = leaves_link (given heap.now roots.now) (WriteField o f source) _ p
 
-  pub read_raw_link : (o f : ℕ) → read-raw.Post κs (store, (heap, (roots, (o, (f, tt))))) r (store, (heap, (roots, (o, (f, tt))))) → Linked (ReadRaw o f) heap roots
-  read_raw_link o f p = leaves_link given (ReadRaw o f) _ p
+    pub write_raw_link : (o f w : ℕ) (h : MutBor (List ℕ)) → write-raw.Post κs (store, (heap, (roots, (o, (f, (w, tt)))))) r (store, (h, (roots, (o, (f, (w, tt)))))) → Linked heap.now roots.now (WriteRaw o f w) h.now roots.now
+    write_raw_link o f w h p = leaves_link (given heap.now roots.now) (WriteRaw o f w) _ p
 
-  pub write_raw_link : (o f w : ℕ) (h : Bor (List ℕ)) → write-raw.Post κs (store, (heap, (roots, (o, (f, (w, tt)))))) r (store, (h, (roots, (o, (f, (w, tt)))))) → Linked (WriteRaw o f w) h roots
-  write_raw_link o f w h p = leaves_link given (WriteRaw o f w) _ p
+  -- both lent to be read
+  module _ (heap roots : Bor (List ℕ)) where
+    pub read_raw_link : (o f : ℕ) → read-raw.Post κs (store, (heap, (roots, (o, (f, tt))))) r (store, (heap, (roots, (o, (f, tt))))) → Linked heap.now roots.now (ReadRaw o f) heap.now roots.now
+    read_raw_link o f p = leaves_link (given heap.now roots.now) (ReadRaw o f) _ p
 
-  pub ask_link : (slot : ℕ) → ask.Post κs (store, (heap, (roots, (slot, tt)))) r (store, (heap, (roots, (slot, tt)))) → Linked (Ask slot) heap roots
-  ask_link slot p = leaves_link given (Ask slot) _ p
+    pub ask_link : (slot : ℕ) → ask.Post κs (store, (heap, (roots, (slot, tt)))) r (store, (heap, (roots, (slot, tt)))) → Linked heap.now roots.now (Ask slot) heap.now roots.now
+    ask_link slot p = leaves_link (given heap.now roots.now) (Ask slot) _ p
 
-  pub same_link : (first second : ℕ) → same.Post κs (store, (heap, (roots, (first, (second, tt))))) r (store, (heap, (roots, (first, (second, tt))))) → Linked (Same first second) heap roots
-  same_link first second p = leaves_link given (Same first second) _ p
+    pub same_link : (first second : ℕ) → same.Post κs (store, (heap, (roots, (first, (second, tt))))) r (store, (heap, (roots, (first, (second, tt))))) → Linked heap.now roots.now (Same first second) heap.now roots.now
+    same_link first second p = leaves_link (given heap.now roots.now) (Same first second) _ p

@@ -1,5 +1,5 @@
 -- Demand 3 of the functions: whatever they answer to a sequence of calls is what the simple list answers. Assumes nothing.
-use Rattle.std.proofs.Common.{◌≡◌, ℕ, suc, ◌<◌, true, ◌⊎◌, List, [], ◌∷◌, map, length, replicate, ℤ, sym, refl, ap, ◌∙◌, subst, ap₂, inl, inr, Bor}
+use Rattle.std.proofs.Common.{◌≡◌, ℕ, suc, ◌<◌, true, ◌⊎◌, List, [], ◌∷◌, map, length, replicate, ℤ, sym, refl, ap, ◌∙◌, subst, ap₂, inl, inr, Bor, MutBor}
 use contract.Lifetimes.{Lfts}
 use Rattle.meaning.specs.Answers.{Answer as Answered, gives}
 use Rattle.meaning.specs.Values.{int, ref, nil_word}
@@ -46,10 +46,10 @@ lent_mem c = mem_of c.heap c.slots c.store
 -- `answer`, with c lent, may leave e
 pub record Answers (c : Lent) (k : Call) (e : Left) : Type 0 where
   pub κs : Lfts 2
-  pub h : Bor (List ℕ)
-  pub t : Bor (List ℕ)
-  pub h' : Bor (List ℕ)
-  pub t' : Bor (List ℕ)
+  pub h : MutBor (List ℕ)
+  pub t : MutBor (List ℕ)
+  pub h' : MutBor (List ℕ)
+  pub t' : MutBor (List ℕ)
   pub heap_lent : h.now ≡ c.heap
   pub slots_lent : t.now ≡ c.slots
   pub heap_left : h'.now ≡ e.heap
@@ -59,17 +59,17 @@ pub record Answers (c : Lent) (k : Call) (e : Left) : Type 0 where
 -- and so may `collect`; the marks and tables that it leaves are the caller's again
 pub record Collects (c : Lent) (b : Brought) (e : Left) : Type 0 where
   pub κs : Lfts 6
-  pub h : Bor (List ℕ)
-  pub t : Bor (List ℕ)
-  pub m : Bor (List ℕ)
+  pub h : MutBor (List ℕ)
+  pub t : MutBor (List ℕ)
+  pub m : MutBor (List ℕ)
   pub order : Bor (List ℕ)
-  pub l : Bor (List ℕ)
-  pub o : Bor (List ℕ)
-  pub h' : Bor (List ℕ)
-  pub t' : Bor (List ℕ)
-  pub m' : Bor (List ℕ)
-  pub l' : Bor (List ℕ)
-  pub o' : Bor (List ℕ)
+  pub l : MutBor (List ℕ)
+  pub o : MutBor (List ℕ)
+  pub h' : MutBor (List ℕ)
+  pub t' : MutBor (List ℕ)
+  pub m' : MutBor (List ℕ)
+  pub l' : MutBor (List ℕ)
+  pub o' : MutBor (List ℕ)
   pub heap_lent : h.now ≡ c.heap
   pub slots_lent : t.now ≡ c.slots
   pub brought : brought_of m.now order.now l.now o.now ≡ b
@@ -122,14 +122,17 @@ some c n =
 abbrev lend : List ℕ → Bor (List ℕ)
 lend ws = record { ref_ptr = (0, 0); now = ws }
 
+abbrev lend_mut : List ℕ → MutBor (List ℕ)
+lend_mut ws = record { ref_ptr = (0, 0); ghost_name = 0; now = ws }
+
 -- what leaves e as the call on paper does is a link, by whatever function
 pub leaves_link : (c : Lent) (k : Call) (e : Left) → Leaves (lent_mem c) (answered (lent_mem c) (call_of k)) e.answer e.heap e.slots → Answers c k e
 leaves_link c k e l = record {
   κs = ([], ([], tt));
-  h = lend c.heap;
-  t = lend c.slots;
-  h' = lend e.heap;
-  t' = lend e.slots;
+  h = lend_mut c.heap;
+  t = lend_mut c.slots;
+  h' = lend_mut e.heap;
+  t' = lend_mut e.slots;
   heap_lent = refl;
   slots_lent = refl;
   heap_left = refl;
@@ -141,17 +144,17 @@ link_some : (c : Lent) (n : Next) → Link c n (some c n)
 link_some c (calls k) = leaves_link c k (some c (calls k)) (leaves-some (lent_mem c) (answered (lent_mem c) (call_of k)))
 link_some c (collects b) = record {
   κs = ([], ([], ([], ([], ([], ([], tt))))));
-  h = lend c.heap;
-  t = lend c.slots;
-  m = lend b.marks;
+  h = lend_mut c.heap;
+  t = lend_mut c.slots;
+  m = lend_mut b.marks;
   order = lend b.order;
-  l = lend b.live;
-  o = lend b.offsets;
-  h' = lend (some c (collects b)).heap;
-  t' = lend (some c (collects b)).slots;
-  m' = lend (collection_of (lent_mem c) b).marks;
-  l' = lend (collection_of (lent_mem c) b).live;
-  o' = lend (collection_of (lent_mem c) b).offsets;
+  l = lend_mut b.live;
+  o = lend_mut b.offsets;
+  h' = lend_mut (some c (collects b)).heap;
+  t' = lend_mut (some c (collects b)).slots;
+  m' = lend_mut (collection_of (lent_mem c) b).marks;
+  l' = lend_mut (collection_of (lent_mem c) b).live;
+  o' = lend_mut (collection_of (lent_mem c) b).offsets;
   heap_lent = refl;
   slots_lent = refl;
   brought = refl;

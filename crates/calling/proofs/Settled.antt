@@ -1,5 +1,5 @@
 -- The promises of the store's calls settle the answer, the record and every lent buffer. Assumes nothing.
-use Rattle.std.proofs.Common.{◌≡◌, ℕ, List, ℤ, sym, refl, ap, ◌∙◌, Bor}
+use Rattle.std.proofs.Common.{◌≡◌, ℕ, List, ℤ, sym, refl, ap, ◌∙◌, Bor, MutBor}
 use contract.Lifetimes.{Lfts}
 use Rattle.meaning.specs.Answers.{Answer as Answered, gives, refused}
 use Rattle.meaning.specs.Calls.{Brought, Did, Said as OnPaper, done, integer, is_nil, is_record, is_raw, word, the_same, collected}
@@ -102,58 +102,66 @@ leaves-collected_settled p q = record {
 
 -- ## The functions' own promises: two ends of one call are the same
 -- a call that lends heap and slots to be changed, one of them, or none
-abbrev Both : (Answer → Bor (List ℕ) → Bor (List ℕ) → Type 0) → Type 0
-Both End = (r s : Answer) (h h' t t' : Bor (List ℕ)) → End r h t → End s h' t' → Same r s h.now h'.now t.now t'.now
+abbrev Both : (Answer → MutBor (List ℕ) → MutBor (List ℕ) → Type 0) → Type 0
+Both End = (r s : Answer) (h h' t t' : MutBor (List ℕ)) → End r h t → End s h' t' → Same r s h.now h'.now t.now t'.now
 
-abbrev One : (Answer → Bor (List ℕ) → Type 0) → Type 0
-One End = (r s : Answer) (b b' : Bor (List ℕ)) → End r b → End s b' → (r ≡ s) × (b.now ≡ b'.now)
+abbrev One : (Answer → MutBor (List ℕ) → Type 0) → Type 0
+One End = (r s : Answer) (b b' : MutBor (List ℕ)) → End r b → End s b' → (r ≡ s) × (b.now ≡ b'.now)
 
 abbrev None : (Answer → Type 0) → Type 0
 None End = (r s : Answer) → End r → End s → r ≡ s
 
-module _ (κs : Lfts 2) (store : Store) (heap roots : Bor (List ℕ)) where
-  pub answer_settled : (k : Call) → Both (λ r h t. answer.Post κs (store, (heap, (roots, (k, tt)))) r (store, (h, (t, (k, tt)))))
-  answer_settled k r s h h' t t' p q = leaves_settled p q
+module _ (κs : Lfts 2) (store : Store) where
+  -- heap and slots lent to be changed
+  module _ (heap roots : MutBor (List ℕ)) where
+    pub answer_settled : (k : Call) → Both (λ r h t. answer.Post κs (store, (heap, (roots, (k, tt)))) r (store, (h, (t, (k, tt)))))
+    answer_settled k r s h h' t t' p q = leaves_settled p q
 
-  pub put_int_settled : (slot : ℕ) (value : ℤ) → One (λ r b. put-int.Post κs (store, (heap, (roots, (slot, (value, tt))))) r (store, (heap, (b, (slot, (value, tt))))))
-  put_int_settled slot value r s b b' p q = let e = leaves_settled p q in (e.answers, e.slots_same)
+    pub new_record_settled : (slot k : ℕ) → Both (λ r h t. new-record.Post κs (store, (heap, (roots, (slot, (k, tt))))) r (store, (h, (t, (slot, (k, tt))))))
+    new_record_settled slot k r s h h' t t' p q = leaves_settled p q
 
-  pub put_nil_settled : (slot : ℕ) → One (λ r b. put-nil.Post κs (store, (heap, (roots, (slot, tt)))) r (store, (heap, (b, (slot, tt)))))
-  put_nil_settled slot r s b b' p q = let e = leaves_settled p q in (e.answers, e.slots_same)
+    pub new_raw_settled : (slot k : ℕ) → Both (λ r h t. new-raw.Post κs (store, (heap, (roots, (slot, (k, tt))))) r (store, (h, (t, (slot, (k, tt))))))
+    new_raw_settled slot k r s h h' t t' p q = leaves_settled p q
 
-  pub copy_settled : (source target : ℕ) → One (λ r b. copy.Post κs (store, (heap, (roots, (source, (target, tt))))) r (store, (heap, (b, (source, (target, tt))))))
-  copy_settled source target r s b b' p q = let e = leaves_settled p q in (e.answers, e.slots_same)
+  -- the slots lent to be changed
+  module _ (heap : Bor (List ℕ)) (roots : MutBor (List ℕ)) where
+    pub put_int_settled : (slot : ℕ) (value : ℤ) → One (λ r b. put-int.Post κs (store, (heap, (roots, (slot, (value, tt))))) r (store, (heap, (b, (slot, (value, tt))))))
+    put_int_settled slot value r s b b' p q = let e = leaves_settled p q in (e.answers, e.slots_same)
 
-  pub new_record_settled : (slot k : ℕ) → Both (λ r h t. new-record.Post κs (store, (heap, (roots, (slot, (k, tt))))) r (store, (h, (t, (slot, (k, tt))))))
-  new_record_settled slot k r s h h' t t' p q = leaves_settled p q
+    pub put_nil_settled : (slot : ℕ) → One (λ r b. put-nil.Post κs (store, (heap, (roots, (slot, tt)))) r (store, (heap, (b, (slot, tt)))))
+    put_nil_settled slot r s b b' p q = let e = leaves_settled p q in (e.answers, e.slots_same)
 
-  pub new_raw_settled : (slot k : ℕ) → Both (λ r h t. new-raw.Post κs (store, (heap, (roots, (slot, (k, tt))))) r (store, (h, (t, (slot, (k, tt))))))
-  new_raw_settled slot k r s h h' t t' p q = leaves_settled p q
+    pub copy_settled : (source target : ℕ) → One (λ r b. copy.Post κs (store, (heap, (roots, (source, (target, tt))))) r (store, (heap, (b, (source, (target, tt))))))
+    copy_settled source target r s b b' p q = let e = leaves_settled p q in (e.answers, e.slots_same)
 
-  pub read_field_settled : (o f target : ℕ) → One (λ r b. read-field.Post κs (store, (heap, (roots, (o, (f, (target, tt)))))) r (store, (heap, (b, (o, (f, (target, tt)))))))
-  read_field_settled o f target r s b b' p q = let e = leaves_settled p q in (e.answers, e.slots_same)
+    pub read_field_settled : (o f target : ℕ) → One (λ r b. read-field.Post κs (store, (heap, (roots, (o, (f, (target, tt)))))) r (store, (heap, (b, (o, (f, (target, tt)))))))
+    read_field_settled o f target r s b b' p q = let e = leaves_settled p q in (e.answers, e.slots_same)
 
-  pub write_field_settled : (o f source : ℕ) → One (λ r b. write-field.Post κs (store, (heap, (roots, (o, (f, (source, tt)))))) r (store, (b, (roots, (o, (f, (source, tt)))))))
-  write_field_settled o f source r s b b' p q = let e = leaves_settled p q in (e.answers, e.heaps)
+  -- the heap lent to be changed
+  module _ (heap : MutBor (List ℕ)) (roots : Bor (List ℕ)) where
+    pub write_field_settled : (o f source : ℕ) → One (λ r b. write-field.Post κs (store, (heap, (roots, (o, (f, (source, tt)))))) r (store, (b, (roots, (o, (f, (source, tt)))))))
+    write_field_settled o f source r s b b' p q = let e = leaves_settled p q in (e.answers, e.heaps)
 
-  pub read_raw_settled : (o f : ℕ) → None (λ r. read-raw.Post κs (store, (heap, (roots, (o, (f, tt))))) r (store, (heap, (roots, (o, (f, tt))))))
-  read_raw_settled o f r s p q = (leaves_settled p q).answers
+    pub write_raw_settled : (o f w : ℕ) → One (λ r b. write-raw.Post κs (store, (heap, (roots, (o, (f, (w, tt)))))) r (store, (b, (roots, (o, (f, (w, tt)))))))
+    write_raw_settled o f w r s b b' p q = let e = leaves_settled p q in (e.answers, e.heaps)
 
-  pub write_raw_settled : (o f w : ℕ) → One (λ r b. write-raw.Post κs (store, (heap, (roots, (o, (f, (w, tt)))))) r (store, (b, (roots, (o, (f, (w, tt)))))))
-  write_raw_settled o f w r s b b' p q = let e = leaves_settled p q in (e.answers, e.heaps)
+  -- both lent to be read
+  module _ (heap roots : Bor (List ℕ)) where
+    pub read_raw_settled : (o f : ℕ) → None (λ r. read-raw.Post κs (store, (heap, (roots, (o, (f, tt))))) r (store, (heap, (roots, (o, (f, tt))))))
+    read_raw_settled o f r s p q = (leaves_settled p q).answers
 
-  pub ask_settled : (slot : ℕ) → None (λ r. ask.Post κs (store, (heap, (roots, (slot, tt)))) r (store, (heap, (roots, (slot, tt)))))
-  ask_settled slot r s p q = (leaves_settled p q).answers
+    pub ask_settled : (slot : ℕ) → None (λ r. ask.Post κs (store, (heap, (roots, (slot, tt)))) r (store, (heap, (roots, (slot, tt)))))
+    ask_settled slot r s p q = (leaves_settled p q).answers
 
-  pub same_settled : (first second : ℕ) → None (λ r. same.Post κs (store, (heap, (roots, (first, (second, tt))))) r (store, (heap, (roots, (first, (second, tt))))))
-  same_settled first second r s p q = (leaves_settled p q).answers
+    pub same_settled : (first second : ℕ) → None (λ r. same.Post κs (store, (heap, (roots, (first, (second, tt))))) r (store, (heap, (roots, (first, (second, tt))))))
+    same_settled first second r s p q = (leaves_settled p q).answers
 
-module _ (κs : Lfts 6) (store : Store) (heap roots marks order live offsets : Bor (List ℕ)) where
+module _ (κs : Lfts 6) (store : Store) (heap roots marks : MutBor (List ℕ)) (order : Bor (List ℕ)) (live offsets : MutBor (List ℕ)) where
   -- the collection ends with answer r, and the buffers hold h, t, m, l and o
-  abbrev Collect : Answer → Bor (List ℕ) → Bor (List ℕ) → Bor (List ℕ) → Bor (List ℕ) → Bor (List ℕ) → Type 0
+  abbrev Collect : Answer → MutBor (List ℕ) → MutBor (List ℕ) → MutBor (List ℕ) → MutBor (List ℕ) → MutBor (List ℕ) → Type 0
   Collect r h t m l o =
       collect.Post κs (store, (heap, (roots, (marks, (order, (live, (offsets, tt))))))) r (store, (h, (t, (m, (order, (l, (o, tt)))))))
 
-  pub collect_settled : (r s : Answer) (h h' t t' m m' l l' o o' : Bor (List ℕ)) → Collect r h t m l o → Collect s h' t' m' l' o'
+  pub collect_settled : (r s : Answer) (h h' t t' m m' l l' o o' : MutBor (List ℕ)) → Collect r h t m l o → Collect s h' t' m' l' o'
       → SameCollected r s h.now h'.now t.now t'.now m.now m'.now l.now l'.now o.now o'.now
   collect_settled r s h h' t t' m m' l l' o o' p q = leaves-collected_settled p q

@@ -9,7 +9,7 @@ use Rattle.image.proofs.Copied.{Copying, copying_start, copying_next, copying_en
 use Rattle.image.proofs.copy_pairs.Given as goal
 
 abbrev pub invariant-loop-i : goal.invariant-loop-i
-invariant-loop-i l = Copying (λ i. pair_at l.bytes (l.from + 2 * l.i)) (length l.initial.buffer) l.buffer l.i
+invariant-loop-i l = Copying (λ i. pair_at l.bytes (l.from + 2 * i)) (length l.initial.buffer) l.buffer l.i
 
 abbrev pub decreases-loop-i : goal.decreases-loop-i
 decreases-loop-i l = length l.initial.buffer - l.i

@@ -3,7 +3,7 @@ use mathlib.Core.Path.{◌≡◌, sym, ap, ap₂, ◌∙◌}
 use mathlib.Core.List.{List, ◌++◌}
 use Prim.Native.Nat.{ℕ}
 use contract.Lifetimes.{Lfts}
-use denote.Ref.{Bor}
+use denote.Ref.{Bor, MutBor}
 use lib.ListN.{take, drop, take-append-drop}
 use Rattle.meaning.specs.Image.{printed}
 use Rattle.report.specs.Reports.{Reports}
@@ -24,15 +24,15 @@ same_ends {text = text} {before = before} {r = r} {s = s} p q =
     let e : r ≡ s = p.ends ∙ sym q.ends in
     record { answers = e; marks_same = p.marks_are ∙ sym q.marks_are; texts = buffer_is p ∙ ap (λ (k : ℕ). text ++ drop k before) e ∙ sym (buffer_is q) }
 
-module _ (κs : Lfts 3) (bytes marks out : Bor (List ℕ)) where
+module _ (κs : Lfts 3) (bytes : Bor (List ℕ)) (marks out : MutBor (List ℕ)) where
   -- the call ends with answer r, and bitmap and buffer hold m and o
-  abbrev pub Answer : ℕ → Bor (List ℕ) → Bor (List ℕ) → Type 0
+  abbrev pub Answer : ℕ → MutBor (List ℕ) → MutBor (List ℕ) → Type 0
   Answer r m o = answer.Post κs (bytes, (marks, (out, tt))) r (bytes, (m, (o, tt)))
 
   -- two ends of one call are the same
-  pub answer_settled : (r s : ℕ) (m m' o o' : Bor (List ℕ)) → Answer r m o → Answer s m' o' → Same r s m.now m'.now o.now o'.now
+  pub answer_settled : (r s : ℕ) (m m' o o' : MutBor (List ℕ)) → Answer r m o → Answer s m' o' → Same r s m.now m'.now o.now o'.now
   answer_settled r s m m' o o' p q = same_ends p.1 q.1
 
   -- what is written first is what is to be printed
-  pub printed_first : (r : ℕ) (m o : Bor (List ℕ)) → Answer r m o → take r o.now ≡ printed bytes.now
+  pub printed_first : (r : ℕ) (m o : MutBor (List ℕ)) → Answer r m o → take r o.now ≡ printed bytes.now
   printed_first r m o p = p.1.written

@@ -106,7 +106,7 @@ fn put_image(bytes: &[u8], t: Contents, marks: &mut [u64], out: &mut [u8]) -> us
 
 // Judges an image, collects with its marks in the bitmap, and puts what is to be printed at the start of `out`; answers its length.
 pub fn answer(bytes: &[u8], marks: &mut [u64; MOST_BLOCKS], out: &mut [u8; MOST_TEXT]) -> usize
-    ensures upper_bound { (result ≤ length out.new) × (result ≡ length (take result out.new)) }
+    ensures within { (result ≤ length out.new) × (result ≡ length (take result out.new)) }
     ensures reports { Reports (printed bytes.now) (marks_after bytes.now marks.old)
         marks.new out.old out.new result }
 {

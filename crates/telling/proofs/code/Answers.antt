@@ -2,18 +2,14 @@
 use borrow.Author.Rules.{rules}
 use Prim.Native.Nat.{ℕ}
 use mathlib.Core.Path.{◌≡◌, refl}
-use mathlib.Core.List.{[], ◌∷◌}
-use types.Run.{OneOf, miss}
-use denote.Enum.Declared.{tag_of}
 use Rattle.store.specs.declared.Said.{Said}
 use Rattle.store.specs.declared.Said.TheVariants.{Done, Integer, Nil, Record, Raw, Word, Same, Collected, Refused}
 use Rattle.store.specs.Contract.{said_of}
-use Rattle.store.specs.contracts.Said.{the_type}
 use Rattle.telling.specs.Out.{code}
 use Rattle.telling.proofs.code.Goals as goal
 
 -- what is no refusal
-accepted : (s : Said) → OneOf (0 ∷ 1 ∷ 2 ∷ 3 ∷ 4 ∷ 5 ∷ 6 ∷ 7 ∷ []) (tag_of the_type s) → ◌≡◌ {A = ℕ} 0 (code (said_of s))
+accepted : (s : Said) → ((n p : ℕ) → s ≡ Refused n p → ⊥) → ◌≡◌ {A = ℕ} 0 (code (said_of s))
 accepted Done h = refl
 accepted (Integer z) h = refl
 accepted Nil h = refl
@@ -22,10 +18,10 @@ accepted (Raw n) h = refl
 accepted (Word w) h = refl
 accepted (Same b) h = refl
 accepted (Collected t o b) h = refl
-accepted (Refused n p) h = absurd (miss (0 ∷ 1 ∷ 2 ∷ 3 ∷ 4 ∷ 5 ∷ 6 ∷ 7 ∷ []) 8 tt h)
+accepted (Refused n p) h = absurd (h n p refl)
 
 pub returns-in-Refused : goal.returns-in-Refused
 returns-in-Refused c = rw c.in-Refused.is c.refusal.ensures
 
 pub returns-in_default : goal.returns-in_default
-returns-in_default c = accepted c.args.said c.in_default.keys2
+returns-in_default c = accepted c.args.said c.in_default.not-Refused

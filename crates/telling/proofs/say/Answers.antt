@@ -8,8 +8,7 @@ use Rattle.telling.proofs.Saying.{says-integer, says_bool}
 use Rattle.telling.proofs.say.Goals as goal
 
 pub returns-in-Integer : goal.returns-in-Integer
-returns-in-Integer c =
-    says-integer c.in-Integer.is (c.bits.ensures ∙ ap bits64 (to_z-of_z w32 c.in-Integer.value (record { sfits = c.known_told-1.given.0.1 }))) c.pair.ensures
+returns-in-Integer c = says-integer c.in-Integer.is (search rules) c.pair.ensures
 
 pub returns-in-Nil : goal.returns-in-Nil
 returns-in-Nil c = rw c.in-Nil.is (record { number = refl; words = refl })

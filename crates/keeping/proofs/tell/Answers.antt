@@ -1,0 +1,7 @@
+-- `tell` meets its contract: the number of the store's answer. Assumes nothing.
+use borrow.Author.Rules.{rules}
+use Rattle.keeping.proofs.KeptStore.{tells}
+use Rattle.keeping.proofs.tell.Goals as goal
+
+pub returns : goal.returns
+returns c = tells c.answer.ensures c.code.ensures

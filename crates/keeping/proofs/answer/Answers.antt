@@ -13,4 +13,4 @@ returns c =
     let a = c.args in
     let k = c.answer-answer in
     let held = memory-held a.kept.now a.heap.now a.roots.now _ c.held.ensures in
-    step_kept a.kept.now a.heap.now a.roots.now _ held k.result c.keep.new.0 k.new.1.0 k.new.1.1.0 c.keep.ensures (call (call_of a.wanted)) k.ensures
+    step_kept a.kept.now a.heap.now a.roots.now _ held k.result c.keep.new.kept k.new.heap k.new.roots c.keep.ensures (call (call_of a.wanted)) k.ensures

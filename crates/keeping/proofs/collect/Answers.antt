@@ -14,6 +14,6 @@ returns c =
     let a = c.args in
     let k = c.collect-answer in
     let held = memory-held a.kept.now a.heap.now a.roots.now _ c.held.ensures in
-    collect_kept a.kept.now a.heap.now a.roots.now _ held k.result c.keep.new.0 k.new.1.0 k.new.1.1.0 c.keep.ensures
+    collect_kept a.kept.now a.heap.now a.roots.now _ held k.result c.keep.new.kept k.new.heap k.new.roots c.keep.ensures
     (brought_of a.marks.now a.order.now a.live.now a.offsets.now)
-    k.new.1.1.1.0 k.new.1.1.1.1.1.0 k.new.1.1.1.1.1.1.0 k.ensures
+    k.new.marks k.new.live k.new.offsets k.ensures

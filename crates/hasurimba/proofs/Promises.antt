@@ -4,7 +4,7 @@ use mathlib.Core.Path.{◌≡◌}
 use mathlib.Core.List.{List}
 use lib.IntN.{ℤ}
 use contract.Lifetimes.{Lfts}
-use denote.Ref.{Bor}
+use denote.Ref.{Bor, MutBor}
 use Rattle.hasurimba.proofs.Settled.{answer_settled, bare_collect_settled, tells_settled, says_settled, collect_settled, Same, SameBuffers, SameTables}
 use Rattle.hasurimba.proofs.hasurimba_check.Reads as check
 use Rattle.hasurimba.proofs.hasurimba_collect.Reads as bare-collect
@@ -23,19 +23,22 @@ use Rattle.hasurimba.proofs.calls.hasurimba_ask.Reads as ask
 use Rattle.hasurimba.proofs.calls.hasurimba_same.Reads as same
 use Rattle.hasurimba.proofs.calls.hasurimba_store_collect.Reads as store-collect
 
--- a lent buffer
+-- a buffer lent to be changed, and one lent to be read
 abbrev Lent : Type 0
-Lent = Bor (List ℕ)
+Lent = MutBor (List ℕ)
+
+abbrev Shared : Type 0
+Shared = Bor (List ℕ)
 
 -- ## The check and the lookups: the number and the lent words
 abbrev Says : (ℕ → Lent → Type 0) → Type 0
 Says End = (r r' : ℕ) (out₁ out₂ : Lent) → End r out₁ → End r' out₂ → (r ≡ r') × (out₁.now ≡ out₂.now)
 
-pub check_settled : (κs : Lfts 4) (heap : Lent) (top : ℕ) (roots marks out : Lent)
+pub check_settled : (κs : Lfts 4) (heap : Shared) (top : ℕ) (roots marks : Shared) (out : Lent)
     → Says (λ r o. check.Post κs (heap, (top, (roots, (marks, (out, tt))))) r (heap, (top, (roots, (marks, (o, tt))))))
 check_settled κs heap top roots marks out r r' out₁ out₂ = answer_settled
 
-module _ (κs : Lfts 3) (live offsets : Lent) (place : ℕ) (out : Lent) where
+module _ (κs : Lfts 3) (live offsets : Shared) (place : ℕ) (out : Lent) where
   pub old_to_new_settled : Says (λ r o. old-to-new.Post κs (live, (offsets, (place, (out, tt)))) r (live, (offsets, (place, (o, tt)))))
   old_to_new_settled r r' out₁ out₂ = answer_settled
 
@@ -87,7 +90,7 @@ module _ (κs : Lfts 4) (kept heap roots out : Lent) where
   same_settled first second r r' k k' h h' t t' out₁ out₂ = says_settled
 
 -- ## The collections: every buffer
-module _ (κs : Lfts 7) (heap : Lent) (top : ℕ) (roots marks order live offsets out : Lent) where
+module _ (κs : Lfts 7) (heap : Lent) (top : ℕ) (roots marks : Lent) (order : Shared) (live offsets out : Lent) where
   abbrev BareCollect : ℕ → Lent → Lent → Lent → Lent → Lent → Lent → Type 0
   BareCollect r h t m l o w =
       bare-collect.Post κs (heap, (top, (roots, (marks, (order, (live, (offsets, (out, tt)))))))) r (h, (top, (t, (m, (order, (l, (o, (w, tt))))))))
@@ -96,7 +99,7 @@ module _ (κs : Lfts 7) (heap : Lent) (top : ℕ) (roots marks order live offset
       → ((r ≡ r') × (w.now ≡ w'.now)) × SameBuffers h.now h'.now t.now t'.now m.now m'.now l.now l'.now o.now o'.now
   bare_collection_settled r r' h h' t t' m m' l l' o o' w w' = bare_collect_settled
 
-module _ (κs : Lfts 8) (kept heap roots marks order live offsets out : Lent) where
+module _ (κs : Lfts 8) (kept heap roots marks : Lent) (order : Shared) (live offsets out : Lent) where
   abbrev StoreCollect : ℕ → Lent → Lent → Lent → Lent → Lent → Lent → Lent → Type 0
   StoreCollect r k h t m l o w =
       store-collect.Post κs (kept, (heap, (roots, (marks, (order, (live, (offsets, (out, tt)))))))) r (k, (h, (t, (m, (order, (l, (o, (w, tt))))))))

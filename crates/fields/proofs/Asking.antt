@@ -2,13 +2,9 @@
 use Prim.Native.Nat.{ℕ, ◌<◌}
 use mathlib.Core.Path.{◌≡◌, refl, ap, ◌∙◌}
 use mathlib.Core.Bool.{true}
-use mathlib.Core.Logic.{⊎_elim}
-use mathlib.Core.List.{List, [], ◌∷◌}
+use mathlib.Core.List.{List}
 use lib.ListN.{length}
 use borrow.Author.Tests.{lt-ltb}
-use types.Run.{OneOf}
-use denote.Enum.Declared.{tag_of}
-use native.Mathlib.Omega.{arith}
 use Rattle.meaning.specs.Answers.{gives}
 use Rattle.meaning.specs.Calls.{fits, judgeable, Shown, ask, admit}
 use Rattle.meaning.specs.Store.{view_of, shown, asked, answered}
@@ -19,7 +15,6 @@ use Rattle.store.specs.Contract.{mem_of, said_of, Leaves, told_of}
 use Rattle.fields.specs.declared.Seen.{Seen}
 use Rattle.fields.specs.declared.Seen.TheVariants.{Number, Empty, Object, Stray}
 use Rattle.fields.specs.Fields.{seen_of}
-use Rattle.fields.specs.contracts.Seen.{the_type}
 
 -- what is not stray is judgeable
 pub judged_seen : (s : ℕ) (x : Seen) → (x ≡ Stray → ⊥) → (p : ℕ) × (judgeable s (seen_of x) ≡ gives p)

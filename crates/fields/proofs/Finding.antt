@@ -2,14 +2,11 @@
 use Prim.Native.Nat.{ℕ, suc, ◌+◌, ◌/◌, ◌%◌, ◌≤◌, ◌<◌}
 use mathlib.Core.Path.{◌≡◌, refl, ap, sym, ◌∙◌}
 use mathlib.Core.Bool.{Bool, true, false, cond}
-use mathlib.Core.Logic.{⊎_elim}
-use mathlib.Core.List.{List, [], ◌∷◌}
+use mathlib.Core.List.{List}
 use native.Mathlib.Omega.{arith}
 use borrow.Author.Tests.{leb-true, ltb-true}
 use lib.Dec.{ltb, eqb}
 use lib.ListN.{length, get_or}
-use types.Run.{OneOf}
-use denote.Enum.Declared.{tag_of}
 use Rattle.meaning.specs.Answers.{Answer as Answered, gives, refused}
 use Rattle.meaning.specs.Values.{Value, int, nil, ref, value_of}
 use Rattle.meaning.specs.Objects.{legal_header}
@@ -23,7 +20,6 @@ use Rattle.fields.specs.declared.Seen.{Seen}
 use Rattle.fields.specs.declared.Seen.TheVariants.{Number, Empty, Object, Stray}
 use Rattle.fields.specs.declared.Found.{Found}
 use Rattle.fields.specs.declared.Found.TheVariants.{At, No}
-use Rattle.fields.specs.contracts.Seen.{the_type}
 use Rattle.store.specs.Contract.{mem_of, store_of, said_of, Leaves, refused_of, ticked_of, told_of}
 use Rattle.fields.specs.Fields.{seen_of, no_object, found_of, finding, field_of, Finds}
 use Rattle.store.proofs.CallsLeave.{fits-top, leaves-refused, leaves-told}

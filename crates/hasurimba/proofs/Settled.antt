@@ -9,7 +9,7 @@ use native.Mathlib.Omega.{arith}
 use Rattle.meaning.specs.Answers.{Answer, refused}
 use Rattle.meaning.specs.Collect.{After}
 use Rattle.meaning.specs.Calls.{Brought}
-use Rattle.meaning.specs.Sequences.{Step, collect, step}
+use Rattle.meaning.specs.Sequences.{Step, step}
 use Rattle.telling.specs.Out.{code, Says, SaysCollected}
 use Rattle.keeping.proofs.KeptStore.{put_back}
 use Rattle.keeping.specs.Kept.{memory, said_by, after_it, Leaves, TellsCall, SaysCall, SaysCollect}

@@ -19,7 +19,7 @@ use Rattle.store.specs.declared.Answer.{Answer as StoreAnswer}
 use Rattle.store.specs.declared.Said.{Said as SaidByStore}
 use Rattle.store.specs.declared.Said.TheVariants.{Refused}
 use Rattle.telling.specs.Out.{code, said_words, Says}
-use Rattle.keeping.specs.Kept.{memory, store_in, with_store, Leaves, TellsCall, SaysCall, SaysCollect, Gets, GetsCollected}
+use Rattle.keeping.specs.Kept.{memory, store_in, with_store, TellsCall, SaysCall, SaysCollect, Gets, GetsCollected}
 use Rattle.telling.proofs.Saying.{says_same}
 
 -- ## A top past 32 bits

@@ -4,7 +4,7 @@ use mathlib.Core.Path.{◌≡◌, ap, sym, ◌∙◌}
 use mathlib.Core.Bool.{true}
 use native.Mathlib.Omega.{arith}
 use lib.ListN.{length, replicate, length-set}
-use borrow.Author.Tests.{lt-ltb, le-ltb, le-leb, lt-leb, not-true, not-false}
+use borrow.Author.Tests.{lt-ltb, le-ltb, le-leb, lt-leb}
 use Rattle.meaning.specs.Limits.{heap_words, payload_words}
 use Rattle.meaning.specs.Calls.{fits}
 use Rattle.meaning.specs.Store.{view_of, shrunk}
@@ -13,7 +13,6 @@ use Rattle.store.specs.Contract.{mem_of, store_of}
 use Rattle.store.proofs.CallsLeave.{fits-top, leaves-refused}
 use Rattle.births.proofs.BirthsAre.{leaves-born}
 use Rattle.births.proofs.Put.{put_head}
-use borrow.Author.Rules.{rules}
 use Rattle.births.proofs.birth.Goals as goal
 use Rattle.births.proofs.birth.Goals.{Else-not-fits}
 

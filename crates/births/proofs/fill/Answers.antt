@@ -1,11 +1,10 @@
 -- `fill` meets its contract: one word after the other, those before it as put. Assumes nothing.
-use Prim.Native.Nat.{ℕ, ◌+◌, ◌-◌, ◌≤◌}
+use Prim.Native.Nat.{ℕ, ◌+◌}
 use native.Mathlib.Omega.{arith}
 use native.Mathlib.Numerals.{add-one}
 use mathlib.Core.Path.{◌≡◌, refl, ap, ◌∙◌}
 use mathlib.Core.List.{List}
-use lib.ListN.{length, set, replicate, length-set}
-use Rattle.births.specs.Births.{put}
+use lib.ListN.{set, length-set}
 use Rattle.births.proofs.Put.{put_none, put_more}
 use Rattle.births.proofs.fill.Goals as goal
 

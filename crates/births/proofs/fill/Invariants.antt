@@ -1,12 +1,8 @@
 -- `fill` meets its contract: one word after the other, those before it as put. Assumes nothing.
-use Prim.Native.Nat.{ℕ, ◌+◌, ◌-◌, ◌≤◌}
-use native.Mathlib.Omega.{arith}
-use native.Mathlib.Numerals.{add-one}
-use mathlib.Core.Path.{◌≡◌, refl, ap, ◌∙◌}
-use mathlib.Core.List.{List}
-use lib.ListN.{length, set, replicate, length-set}
+use Prim.Native.Nat.{◌-◌, ◌≤◌}
+use mathlib.Core.Path.{◌≡◌}
+use lib.ListN.{length, replicate}
 use Rattle.births.specs.Births.{put}
-use Rattle.births.proofs.Put.{put_none, put_more}
 use Rattle.births.proofs.fill.Given as goal
 
 abbrev pub invariant-loop-i : goal.invariant-loop-i

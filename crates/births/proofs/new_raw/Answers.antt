@@ -1,6 +1,5 @@
 -- `new_raw` meets its contract: a raw object's birth. Assumes nothing.
 use Rattle.births.proofs.BirthsAre.{leaves-raw}
-use borrow.Author.Rules.{rules}
 use Rattle.births.proofs.new_raw.Goals as goal
 
 pub returns : goal.returns

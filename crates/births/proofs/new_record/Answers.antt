@@ -1,6 +1,5 @@
 -- `new_record` meets its contract: a record's birth. Assumes nothing.
 use Rattle.births.proofs.BirthsAre.{leaves_record}
-use borrow.Author.Rules.{rules}
 use Rattle.births.proofs.new_record.Goals as goal
 
 pub returns : goal.returns

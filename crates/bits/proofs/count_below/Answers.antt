@@ -1,5 +1,4 @@
 -- `bits::count_below` meets its contract: past the end nothing more is counted. Assumes nothing.
-use borrow.Author.Rules.{rules}
 use mathlib.Core.Path.{sym, ◌∙◌}
 use Prim.Native.Nat.{◌*◌, ◌/◌, ◌%◌}
 use lib.ListN.{length, get_or}

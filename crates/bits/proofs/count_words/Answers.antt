@@ -1,7 +1,7 @@
 -- `bits::count_words` meets its contract. The loop has counted the first b words. Assumes nothing.
 use borrow.Author.Rules.{rules}
 use mathlib.Core.Path.{◌≡◌, sym, ap, ◌∙◌}
-use Prim.Native.Nat.{ℕ, ◌≤◌, ◌+◌, ◌*◌, ◌-◌}
+use Prim.Native.Nat.{ℕ, ◌+◌, ◌*◌}
 use lib.ListN.{get_or}
 use native.Mathlib.Omega.{arith}
 use Rattle.meaning.specs.Limits.{block_words}

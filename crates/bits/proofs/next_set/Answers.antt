@@ -1,10 +1,8 @@
 -- `bits::next_set` meets its contract. The loop has found no marked place from p to before `at`. Assumes nothing.
-use borrow.Author.Rules.{rules}
-use Prim.Native.Nat.{◌≤◌, ◌-◌}
 use lib.Count.{trailing_le}
 use native.Mathlib.Omega.{arith}
 use Rattle.meaning.specs.Limits.{block_words}
-use Rattle.bits.proofs.NextSet.{Clear, rest_at, next_here, next_none, clear-on}
+use Rattle.bits.proofs.NextSet.{rest_at, next_here, next_none, clear-on}
 use Rattle.bits.proofs.next_set.Goals as goal
 
 pub loop-at-init : goal.loop-at-init

@@ -5,7 +5,6 @@ use native.Mathlib.Omega.{arith}
 use native.Mathlib.Nat.{one-mul}
 use lib.Count.{ones}
 use lib.Pow.{pow_pos, shl_exact}
-use borrow.Author.Rules.{rules}
 use Rattle.bits.proofs.Words.{ones_rest}
 use Rattle.bits.proofs.ones_below.Reads as reads
 use Rattle.bits.proofs.ones_below.Lts as lts

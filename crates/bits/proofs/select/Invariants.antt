@@ -1,8 +1,6 @@
 -- `bits::select` meets its contract, by the halving search. Assumes nothing.
-use borrow.Author.Rules.{rules}
-use native.Mathlib.Omega.{arith}
 use Rattle.meaning.specs.Limits.{block_words}
-use Rattle.bits.proofs.Halving.{Halving, halve_start, halve_low, halve_high, halve_end}
+use Rattle.bits.proofs.Halving.{Halving}
 use Rattle.bits.proofs.select.Given as goal
 
 abbrev pub invariant-loop-width : goal.invariant-loop-width

@@ -1,5 +1,4 @@
 -- `bits::set_part` meets its contract. Assumes nothing.
-use borrow.Author.Rules.{rules}
 use Rattle.bits.proofs.Ranges.{gains_part}
 use Rattle.bits.proofs.set_part.Goals as goal
 

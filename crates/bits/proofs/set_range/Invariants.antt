@@ -1,12 +1,9 @@
 -- `bits::set_range` meets its contract. The loop has marked the places from `from` to before `at`. Assumes nothing.
-use borrow.Author.Rules.{rules}
-use mathlib.Core.Path.{◌≡◌, refl, ◌∙◌}
+use mathlib.Core.Path.{◌≡◌}
 use Prim.Native.Nat.{◌≤◌, ◌-◌, max}
 use lib.ListN.{length}
-use native.Mathlib.Omega.{arith}
 use Rattle.meaning.proofs.Bitmaps.{Fit}
 use Rattle.bits.specs.Ranges.{Gains}
-use Rattle.bits.proofs.Ranges.{gains_none, gains_more, gains_all}
 use Rattle.bits.proofs.set_range.Given as goal
 
 abbrev pub invariant-loop-at : goal.invariant-loop-at

@@ -1,5 +1,4 @@
 -- `bits::test` meets its contract. Assumes nothing.
-use borrow.Author.Rules.{rules}
 use mathlib.Core.Path.{refl, sym}
 use native.Mathlib.Omega.{arith}
 use Rattle.meaning.specs.Places.{marked}

@@ -1,11 +1,6 @@
 -- `blocks::drop_low` meets its contract. The i lowest set bits are dropped. Assumes nothing.
-use borrow.Author.Rules.{rules}
-use mathlib.Core.Path.{◌≡◌}
-use mathlib.Core.Logic.{◌≢◌}
 use Prim.Native.Nat.{◌≤◌, ◌-◌}
-use native.Mathlib.Omega.{arith}
 use Rattle.blocks.specs.Cursors.{Dropped}
-use Rattle.blocks.proofs.DroppedBits.{dropped-start, dropped_next, dropped-some}
 use Rattle.blocks.proofs.drop_low.Given as goal
 
 abbrev pub invariant-loop-i : goal.invariant-loop-i

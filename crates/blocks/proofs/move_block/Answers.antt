@@ -1,14 +1,13 @@
 -- `blocks::move_block` meets its contract. The step's live words before number j are moved, and the cursor stands before that one. Assumes nothing.
-use borrow.Author.Rules.{rules}
 use mathlib.Core.Path.{◌≡◌}
 use mathlib.Core.Bool.{true}
-use Prim.Native.Nat.{◌+◌, ◌-◌, ◌<◌}
+use Prim.Native.Nat.{◌+◌, ◌<◌}
 use native.Mathlib.Omega.{arith}
 use lib.Count.{count_trailing_zeros}
 use lib.ListN.{length}
 use Rattle.meaning.specs.Limits.{block_words}
 use Rattle.meaning.specs.Places.{bit_set}
-use Rattle.blocks.proofs.WordsMoved.{movable-few, Moving, Copied, moving_start, moving-within, moving-word, moving-bit, moving-run, moving_end}
+use Rattle.blocks.proofs.WordsMoved.{movable-few, Copied, moving_start, moving-within, moving-word, moving-bit, moving-run, moving_end}
 use Rattle.blocks.proofs.move_block.Goals as goal
 use Rattle.blocks.proofs.move_block.Goals.{After-run_length-k, Else-rest-eq0, Then-rest-eq0}
 

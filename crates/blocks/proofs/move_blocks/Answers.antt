@@ -1,11 +1,10 @@
 -- `blocks::move_blocks` meets its contract. The steps at the first i positions are done. Assumes nothing.
-use borrow.Author.Rules.{rules}
-use Prim.Native.Nat.{◌-◌, ◌<◌}
+use Prim.Native.Nat.{◌<◌}
 use native.Mathlib.Omega.{arith}
-use lib.ListN.{length, get_or}
+use lib.ListN.{get_or}
 use Rattle.meaning.specs.Limits.{blocks_of}
 use Rattle.blocks.proofs.WordsMoved.{movable-few}
-use Rattle.blocks.proofs.StepsRun.{Running, running_start, running_ready, running_next, running_end}
+use Rattle.blocks.proofs.StepsRun.{running_start, running_ready, running_next, running_end}
 use Rattle.blocks.proofs.move_blocks.Goals as goal
 use Rattle.blocks.proofs.move_blocks.Goals.{In-loop-i}
 

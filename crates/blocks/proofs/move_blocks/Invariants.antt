@@ -1,11 +1,7 @@
 -- `blocks::move_blocks` meets its contract. The steps at the first i positions are done. Assumes nothing.
-use borrow.Author.Rules.{rules}
-use Prim.Native.Nat.{◌-◌, ◌<◌}
-use native.Mathlib.Omega.{arith}
-use lib.ListN.{length, get_or}
-use Rattle.meaning.specs.Limits.{blocks_of}
-use Rattle.blocks.proofs.WordsMoved.{movable-few}
-use Rattle.blocks.proofs.StepsRun.{Running, running_start, running_ready, running_next, running_end}
+use Prim.Native.Nat.{◌-◌}
+use lib.ListN.{length}
+use Rattle.blocks.proofs.StepsRun.{Running}
 use Rattle.blocks.proofs.move_blocks.Given as goal
 
 abbrev pub invariant-loop-i : goal.invariant-loop-i

@@ -1,8 +1,5 @@
 -- `blocks::seek` meets its contract. Live word number j is number `left` of those from word `block` on. Assumes nothing.
-use borrow.Author.Rules.{rules}
-use Prim.Native.Nat.{◌-◌}
-use lib.ListN.{length}
-use Rattle.blocks.proofs.CursorMoves.{Seeking, seeking_start, seeking_next, seeking_end}
+use Rattle.blocks.proofs.CursorMoves.{seeking_start, seeking_next, seeking_end}
 use Rattle.blocks.proofs.seek.Goals as goal
 
 pub loop-left-init : goal.loop-left-init

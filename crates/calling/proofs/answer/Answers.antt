@@ -1,6 +1,5 @@
 -- `answer` meets its contract: each call's own answer, passed on. Assumes nothing.
-use Rattle.std.proofs.Common.{◌≡◌, ℕ, List, w32, rules}
-use mir.ValLaws.{to_z-of_z}
+use Rattle.std.proofs.Common.{◌≡◌, ℕ, List}
 use Rattle.meaning.specs.Store.{Mem, answered}
 use Rattle.store.specs.declared.Answer.{Answer}
 use Rattle.store.specs.declared.Call.{Call}

@@ -1,7 +1,5 @@
 -- `collect` meets its contract: what the collection answers, passed on. Assumes nothing.
-use Rattle.store.specs.declared.Store.{Store}
 use Rattle.calling.proofs.CollectLeaves.{leaves_uncollected, leaves-collected}
-use Rattle.std.proofs.Common.{rules}
 use Rattle.calling.proofs.collect.Goals as goal
 
 pub returns-in-Refused : goal.returns-in-Refused

@@ -1,5 +1,5 @@
 -- `shrunk` meets its contract: the top put in, the count wrapping on purpose. Assumes nothing.
-use Rattle.std.proofs.Common.{add-one, rules}
+use Rattle.std.proofs.Common.{add-one}
 use Rattle.calling.proofs.shrunk.Goals as goal
 
 pub returns : goal.returns

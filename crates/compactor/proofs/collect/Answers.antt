@@ -1,19 +1,14 @@
 -- `collect` meets its contract: refusal 1, then what preparing says, and where it is ready the last phase. Assumes nothing.
-use borrow.Author.Rules.{rules}
-use borrow.Author.Tests.{not-true, not-false}
 use native.Mathlib.Omega.{arith}
 use mathlib.Core.Path.{◌≡◌, sym, ◌∙◌}
 use mathlib.Core.Bool.{true, false}
-use mathlib.Core.List.{List}
-use Prim.Native.Nat.{ℕ}
 use lib.ListN.{replicate}
 use Rattle.meaning.specs.Limits.{table_entries}
 use Rattle.meaning.specs.Collect.{sizes_fit, tables_fit}
 use Rattle.meaning.proofs.Bitmaps.{marked_zeros}
 use Rattle.objects.proofs.Sizes.{sizes}
-use Rattle.compactor.specs.declared.Prepared.{Prepared}
-use Rattle.compactor.specs.Phases.{PreparedAs, Fit}
-use Rattle.compactor.proofs.Preparing.{prepared_as, misordered_low}
+use Rattle.compactor.specs.Phases.{Fit}
+use Rattle.compactor.proofs.Preparing.{misordered_low}
 use Rattle.compactor.proofs.Collecting.{collects_unfit, collects_unsound, collects_misordered, sorted_finishable, collects-done}
 use Rattle.compactor.proofs.collect.Goals as goal
 use Rattle.compactor.proofs.collect.Goals.{Else-not-sizes_fit, Else-not-tables_fit}

@@ -1,5 +1,4 @@
 -- `finish` meets its contract: marks are no more than the bits of the bitmap. Assumes nothing.
-use borrow.Author.Rules.{rules}
 use native.Mathlib.Omega.{arith}
 use Prim.Native.Nat.{◌*◌}
 use lib.ListN.{length}

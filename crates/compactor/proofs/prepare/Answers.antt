@@ -1,10 +1,6 @@
 -- `prepare` meets its contract: what the checks say, then the tables and the order. Assumes nothing.
-use borrow.Author.Rules.{rules}
-use mathlib.Core.Path.{◌≡◌, refl}
-use Rattle.objects.specs.Examined.{Examined}
-use Rattle.objects.specs.declared.Judged.{Judged}
-use Rattle.objects.specs.declared.Judged.TheVariants.{Sound}
-use Rattle.compactor.proofs.Preparing.{fit-blank, sound_settleable, sound_prepared, examined_as}
+use mathlib.Core.Path.{refl}
+use Rattle.compactor.proofs.Preparing.{fit-blank, sound_settleable, sound_prepared}
 use Rattle.compactor.proofs.prepare.Goals as goal
 
 pub examine-judged-requires : goal.examine-judged-requires

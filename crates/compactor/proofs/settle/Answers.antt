@@ -1,5 +1,4 @@
 -- `settle` meets its contract: the tables are filled, and then the judge says. Assumes nothing.
-use borrow.Author.Rules.{rules}
 use mathlib.Core.Path.{sym, ◌∙◌}
 use lib.ListN.{length}
 use Rattle.compactor.proofs.Settling.{settling_bounded, settled_ready, settled_misordered}

@@ -1,5 +1,4 @@
 -- `slide` meets its contract: each phase goes on from what the one before it left. Assumes nothing.
-use borrow.Author.Rules.{rules}
 use Rattle.compactor.proofs.Sliding.{movable-fixed, slid}
 use Rattle.compactor.proofs.slide.Goals as goal
 

@@ -1,13 +1,12 @@
 -- `ask` meets its contract: refused where the slot shows no object, else said. Assumes nothing.
 use mathlib.Core.Path.{◌≡◌, sym, ◌∙◌}
 use mathlib.Core.Bool.{true}
-use borrow.Author.Tests.{lt-ltb, le-ltb, not-true, not-false}
+use borrow.Author.Tests.{lt-ltb, le-ltb}
 use Rattle.meaning.specs.Calls.{fits, admit}
 use Rattle.meaning.specs.Store.{view_of, answered, shown}
 use Rattle.store.specs.Contract.{mem_of}
 use Rattle.store.proofs.CallsLeave.{fits-top, leaves-refused}
 use Rattle.fields.proofs.Asking.{leaves-asked}
-use borrow.Author.Rules.{rules}
 use Rattle.fields.proofs.ask.Goals as goal
 use Rattle.fields.proofs.ask.Goals.{Else-not-fits}
 

@@ -1,11 +1,5 @@
 -- `asked` meets its contract: case by case. Assumes nothing.
-use mathlib.Core.Path.{ap}
-use lib.IntN.{ℤ}
-use mir.Syntax.{w32}
-use mir.ValLaws.{to_z-of_z}
 use borrow.Author.Tests.{eq-eqb, ne_eqb}
-use Rattle.meaning.specs.Answers.{gives}
-use Rattle.meaning.specs.Calls.{integer}
 use borrow.Author.Rules.{rules}
 use Rattle.fields.proofs.asked.Goals as goal
 

@@ -1,13 +1,12 @@
 -- `find` meets its contract: 1 and 7 first, then what the slot shows. Assumes nothing.
 use mathlib.Core.Path.{◌≡◌, sym, ◌∙◌}
 use mathlib.Core.Bool.{true}
-use borrow.Author.Tests.{lt-ltb, le-ltb, not-true, not-false}
+use borrow.Author.Tests.{lt-ltb, le-ltb}
 use Rattle.meaning.specs.Calls.{fits}
 use Rattle.meaning.specs.Store.{view_of, shown}
 use Rattle.store.specs.Contract.{mem_of}
 use Rattle.fields.specs.Fields.{finding}
 use Rattle.store.proofs.CallsLeave.{fits-top}
-use borrow.Author.Rules.{rules}
 use Rattle.fields.proofs.find.Goals as goal
 use Rattle.fields.proofs.find.Goals.{Else-not-fits}
 

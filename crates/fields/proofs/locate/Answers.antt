@@ -3,7 +3,6 @@ use borrow.Author.Tests.{lt-ltb, le-ltb, eq-eqb, ne_eqb}
 use native.Mathlib.Numerals.{add-one}
 use native.Mathlib.Omega.{arith}
 use Rattle.fields.proofs.Finding.{no_find}
-use borrow.Author.Rules.{rules}
 use Rattle.fields.proofs.locate.Goals as goal
 
 pub returns-in_default : goal.returns-in_default

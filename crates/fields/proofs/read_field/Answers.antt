@@ -7,7 +7,6 @@ use Rattle.meaning.specs.Calls.{read_field, admit}
 use Rattle.meaning.specs.Store.{Mem, with_slot}
 use Rattle.fields.specs.Fields.{finding}
 use Rattle.fields.proofs.Finding.{found_at, leaves_unfound, leaves-found}
-use borrow.Author.Rules.{rules}
 use Rattle.fields.proofs.read_field.Goals as goal
 
 pub offset_bounds-heap-at : goal.offset_bounds-heap-at

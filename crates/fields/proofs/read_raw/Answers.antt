@@ -6,7 +6,6 @@ use lib.ListN.{get_or}
 use Rattle.meaning.specs.Calls.{read_raw, word, admit}
 use Rattle.meaning.specs.Store.{Mem, only_says}
 use Rattle.fields.proofs.Finding.{found_at, leaves_unfound, leaves-found, finding-once}
-use borrow.Author.Rules.{rules}
 use Rattle.fields.proofs.read_raw.Goals as goal
 
 pub offset_bounds-heap-at : goal.offset_bounds-heap-at

@@ -1,12 +1,7 @@
 -- `see` meets its contract: case by case. Assumes nothing.
 use mathlib.Core.Path.{ap, sym, ◌∙◌}
 use Rattle.meaning.specs.Values.{value_of}
-use lib.IntN.{ℤ}
-use mir.Syntax.{w32}
-use mir.ValLaws.{to_z-of_z}
-use Rattle.meaning.specs.Calls.{plain, integer}
 use Rattle.words.specs.Paper.{shown_value}
-use borrow.Author.Rules.{rules}
 use Rattle.fields.proofs.see.Goals as goal
 
 pub returns-in-Nil : goal.returns-in-Nil

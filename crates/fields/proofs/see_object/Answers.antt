@@ -1,10 +1,8 @@
 -- `see_object` meets its contract: a legal header below the top, of an object that ends there. Assumes nothing.
 use Prim.Native.Nat.{suc, ◌+◌, ◌/◌}
 use native.Mathlib.Omega.{arith}
-use borrow.Author.Tests.{lt-ltb, le-ltb, le-leb, lt-leb, not-true, not-false}
+use borrow.Author.Tests.{lt-ltb, le-ltb, le-leb, lt-leb}
 use lib.ListN.{get_or}
-use Rattle.meaning.specs.Objects.{legal_header}
-use borrow.Author.Rules.{rules}
 use Rattle.fields.proofs.see_object.Goals as goal
 
 pub returns-then-top-place : goal.returns-then-top-place

@@ -7,7 +7,6 @@ use Rattle.meaning.specs.Calls.{write_field, admit}
 use Rattle.meaning.specs.Store.{Mem, with_word}
 use Rattle.fields.specs.Fields.{finding}
 use Rattle.fields.proofs.Finding.{found_at, leaves_unfound, leaves-found}
-use borrow.Author.Rules.{rules}
 use Rattle.fields.proofs.write_field.Goals as goal
 
 pub bounds-roots-source : goal.bounds-roots-source

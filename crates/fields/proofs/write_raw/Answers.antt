@@ -5,7 +5,6 @@ use native.Mathlib.Omega.{arith}
 use Rattle.meaning.specs.Calls.{write_raw, admit}
 use Rattle.meaning.specs.Store.{Mem, with_word}
 use Rattle.fields.proofs.Finding.{found_at, leaves_unfound, leaves-found, finding-once}
-use borrow.Author.Rules.{rules}
 use Rattle.fields.proofs.write_raw.Goals as goal
 
 pub offset_bounds-heap-at : goal.offset_bounds-heap-at

@@ -3,10 +3,9 @@ use borrow.Author.Rules.{rules}
 use Prim.Native.Nat.{◌+◌, ◌*◌}
 use lib.Count.{count_trailing_zeros}
 use Rattle.meaning.specs.Limits.{block_words}
-use Rattle.meaning.specs.Places.{below, marked}
 use Rattle.bits.proofs.LowestBit.{lowest_less}
 use Rattle.fixing.specs.Fixable.{RefersWithin}
-use Rattle.fixing.proofs.RefsSentOn.{SendingBits, sending_start, sending-at, sending-next, sending_end}
+use Rattle.fixing.proofs.RefsSentOn.{sending_start, sending-at, sending-next, sending_end}
 use Rattle.fixing.proofs.fix_block.Goals as goal
 use Rattle.fixing.proofs.fix_block.Goals.{In-loop-m}
 

@@ -1,10 +1,6 @@
 -- `fixing::fix_fields` meets its contract. Assumes nothing.
-use borrow.Author.Rules.{rules}
-use Prim.Native.Nat.{◌-◌, ◌*◌}
-use lib.ListN.{length}
-use Rattle.meaning.specs.Limits.{block_words}
 use Rattle.meaning.specs.Places.{below, marked}
-use Rattle.fixing.proofs.RefsSentOn.{SentOnBelow, block_fixable, block-sent, blocks_end}
+use Rattle.fixing.proofs.RefsSentOn.{block_fixable, block-sent, blocks_end}
 use Rattle.fixing.proofs.fix_fields.Goals as goal
 
 pub fix_block-requires : goal.fix_block-requires

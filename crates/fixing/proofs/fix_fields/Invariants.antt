@@ -1,10 +1,9 @@
 -- `fixing::fix_fields` meets its contract. Assumes nothing.
-use borrow.Author.Rules.{rules}
 use Prim.Native.Nat.{◌-◌, ◌*◌}
 use lib.ListN.{length}
 use Rattle.meaning.specs.Limits.{block_words}
 use Rattle.meaning.specs.Places.{below, marked}
-use Rattle.fixing.proofs.RefsSentOn.{SentOnBelow, block_fixable, block-sent, blocks_end}
+use Rattle.fixing.proofs.RefsSentOn.{SentOnBelow}
 use Rattle.fixing.proofs.fix_fields.Given as goal
 
 abbrev pub invariant-loop-b : goal.invariant-loop-b

@@ -1,8 +1,6 @@
 -- `fixing::fix_root` meets its contract. Assumes nothing.
-use borrow.Author.Rules.{rules}
 use mathlib.Core.Path.{◌≡◌, sym, ap, ◌∙◌}
 use Prim.Native.Nat.{ℕ}
-use borrow.Author.Tests.{not-true, not-false}
 use Rattle.meaning.specs.Values.{is_ref}
 use Rattle.fixing.proofs.fix_root.Goals as goal
 use Rattle.fixing.proofs.fix_root.Goals.{After-is_ref}

@@ -1,12 +1,9 @@
 -- `fixing::fix_roots` meets its contract. Assumes nothing.
-use borrow.Author.Rules.{rules}
-use mathlib.Core.Path.{ap, ◌∙◌}
 use Prim.Native.Nat.{◌-◌}
-use native.Mathlib.Omega.{arith}
 use lib.ListN.{length, get_or}
 use Rattle.meaning.specs.Places.{below, marked}
 use Rattle.meaning.specs.Slide.{fix_word}
-use Rattle.fixing.proofs.RewrittenInPlace.{RewrittenBelow, rewritten_next, rewritten_map}
+use Rattle.fixing.proofs.RewrittenInPlace.{RewrittenBelow}
 use Rattle.fixing.proofs.fix_roots.Given as goal
 
 abbrev pub invariant-loop-i : goal.invariant-loop-i

@@ -1,5 +1,4 @@
 -- `fixing::sent_on` meets its contract: half of a reference is the place that it is to, and the new place is no higher. Assumes nothing.
-use borrow.Author.Rules.{rules}
 use mathlib.Core.Path.{◌≡◌, ap, ◌∙◌}
 use Prim.Native.Nat.{◌≤◌}
 use native.Mathlib.Omega.{arith}

@@ -1,8 +1,6 @@
 -- `fixing::zero_tail` meets its contract. Assumes nothing.
-use borrow.Author.Rules.{rules}
-use Prim.Native.Nat.{◌-◌}
 use native.Mathlib.Omega.{arith}
-use Rattle.fixing.proofs.TailZeroed.{Zeroing, zeroing_next, zeroing_end}
+use Rattle.fixing.proofs.TailZeroed.{zeroing_next, zeroing_end}
 use Rattle.fixing.proofs.zero_tail.Goals as goal
 
 pub loop-i-preserved : goal.loop-i-preserved

@@ -1,8 +1,6 @@
 -- `fixing::zero_tail` meets its contract. Assumes nothing.
-use borrow.Author.Rules.{rules}
 use Prim.Native.Nat.{◌-◌}
-use native.Mathlib.Omega.{arith}
-use Rattle.fixing.proofs.TailZeroed.{Zeroing, zeroing_next, zeroing_end}
+use Rattle.fixing.proofs.TailZeroed.{Zeroing}
 use Rattle.fixing.proofs.zero_tail.Given as goal
 
 abbrev pub invariant-loop-i : goal.invariant-loop-i

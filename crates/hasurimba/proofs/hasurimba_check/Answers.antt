@@ -1,5 +1,4 @@
 -- `hasurimba_check` meets its contract: the check's answer, said. Assumes nothing.
-use borrow.Author.Rules.{rules}
 use Rattle.telling.proofs.Saying.{says_same}
 use Rattle.hasurimba.proofs.hasurimba_check.Goals as goal
 

@@ -1,5 +1,4 @@
 -- `hasurimba_collect` meets its contract: the collection's answer, said. Assumes nothing.
-use borrow.Author.Rules.{rules}
 use Rattle.meaning.specs.Collect.{collect}
 use Rattle.telling.proofs.Saying.{says-collected}
 use Rattle.hasurimba.proofs.hasurimba_collect.Goals as goal

@@ -1,5 +1,4 @@
 -- `hasurimba_new_to_old` meets its contract: the lookup's answer, said. Assumes nothing.
-use borrow.Author.Rules.{rules}
 use mathlib.Core.Path.{ap, ◌∙◌}
 use Rattle.meaning.specs.Lookups.{new_to_old}
 use Rattle.telling.proofs.Saying.{says_same}

@@ -1,5 +1,4 @@
 -- `hasurimba_old_to_new` meets its contract: the lookup's answer, said. Assumes nothing.
-use borrow.Author.Rules.{rules}
 use mathlib.Core.Path.{ap, ◌∙◌}
 use Rattle.meaning.specs.Lookups.{old_to_new}
 use Rattle.telling.proofs.Saying.{says_same}

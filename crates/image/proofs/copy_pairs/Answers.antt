@@ -1,11 +1,7 @@
 -- `copy_pairs` meets its contract: the buffer is filled entry by entry. Assumes nothing.
-use borrow.Author.Rules.{rules}
 use native.Mathlib.Omega.{arith}
 use mathlib.Core.Path.{refl}
-use Prim.Native.Nat.{◌+◌, ◌*◌, ◌-◌}
-use lib.ListN.{length}
-use Rattle.meaning.specs.Image.{pair_at}
-use Rattle.image.proofs.Copied.{Copying, copying_start, copying_next, copying_end}
+use Rattle.image.proofs.Copied.{copying_start, copying_next, copying_end}
 use Rattle.image.proofs.copy_pairs.Goals as goal
 
 pub loop-i-init : goal.loop-i-init

@@ -1,11 +1,8 @@
 -- `copy_pairs` meets its contract: the buffer is filled entry by entry. Assumes nothing.
-use borrow.Author.Rules.{rules}
-use native.Mathlib.Omega.{arith}
-use mathlib.Core.Path.{refl}
 use Prim.Native.Nat.{◌+◌, ◌*◌, ◌-◌}
 use lib.ListN.{length}
 use Rattle.meaning.specs.Image.{pair_at}
-use Rattle.image.proofs.Copied.{Copying, copying_start, copying_next, copying_end}
+use Rattle.image.proofs.Copied.{Copying}
 use Rattle.image.proofs.copy_pairs.Given as goal
 
 abbrev pub invariant-loop-i : goal.invariant-loop-i

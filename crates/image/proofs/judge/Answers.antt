@@ -1,6 +1,5 @@
 -- `judge` meets its contract: its tests are those of the definition, in the same order. Assumes nothing.
-use borrow.Author.Rules.{rules}
-use borrow.Author.Tests.{eq-eqb, ne_eqb, le-leb, lt-leb, not-true, not-false}
+use borrow.Author.Tests.{eq-eqb, ne_eqb, le-leb, lt-leb}
 use Rattle.meaning.specs.Image.{judged_contents}
 use Rattle.image.proofs.judge.Goals as goal
 

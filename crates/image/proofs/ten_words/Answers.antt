@@ -1,5 +1,4 @@
 -- `ten_words` meets its contract: word by word. Assumes nothing.
-use borrow.Author.Rules.{rules}
 use Rattle.meaning.specs.Image.{contents_of}
 use Rattle.image.proofs.ten_words.Goals as goal
 

@@ -1,5 +1,4 @@
 -- `word` meets its contract: no sum of four bytes wraps. Assumes nothing.
-use borrow.Author.Rules.{rules}
 use native.Mathlib.Omega.{arith}
 use Rattle.meaning.specs.Image.{word_at}
 use Rattle.image.proofs.word.Goals as goal

@@ -1,5 +1,4 @@
 -- `answer` meets its contract: past 32 bits refused as on paper, else the store's answer, kept. Assumes nothing.
-use borrow.Author.Rules.{rules}
 use Rattle.meaning.specs.Sequences.{call}
 use Rattle.store.specs.Contract.{call_of}
 use Rattle.keeping.proofs.KeptStore.{call_past, memory-held, step_kept}

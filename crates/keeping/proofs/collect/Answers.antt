@@ -1,5 +1,4 @@
 -- `collect` meets its contract: past 32 bits refused as on paper, else the store's answer, kept. Assumes nothing.
-use borrow.Author.Rules.{rules}
 use Rattle.store.specs.Contract.{brought_of}
 use Rattle.keeping.proofs.KeptStore.{collect_past, memory-held, collect_kept}
 use Rattle.keeping.proofs.collect.Goals as goal

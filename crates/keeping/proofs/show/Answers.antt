@@ -1,5 +1,4 @@
 -- `show` meets its contract: the store's answer, said. Assumes nothing.
-use borrow.Author.Rules.{rules}
 use Rattle.keeping.proofs.KeptStore.{says-step}
 use Rattle.keeping.proofs.show.Goals as goal
 

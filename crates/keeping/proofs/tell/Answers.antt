@@ -1,5 +1,4 @@
 -- `tell` meets its contract: the number of the store's answer. Assumes nothing.
-use borrow.Author.Rules.{rules}
 use Rattle.keeping.proofs.KeptStore.{tells}
 use Rattle.keeping.proofs.tell.Goals as goal
 

@@ -1,5 +1,4 @@
 -- `answer` meets its contract, case by case. Assumes nothing.
-use borrow.Author.Rules.{rules}
 use native.Mathlib.Omega.{arith}
 use Prim.Native.Nat.{◌*◌, ◌≤◌}
 use lib.ListN.{length}

@@ -1,10 +1,6 @@
 -- `check` meets its contract: refusal 1, then what the checks 2 to 5 say. Assumes nothing.
-use borrow.Author.Rules.{rules}
-use borrow.Author.Tests.{not-true, not-false}
 use mathlib.Core.Path.{◌≡◌, sym, ◌∙◌}
-use mathlib.Core.Bool.{Bool, true, false}
-use mathlib.Core.List.{List}
-use Prim.Native.Nat.{ℕ}
+use mathlib.Core.Bool.{true, false}
 use Rattle.meaning.specs.Collect.{sizes_fit, checked, check}
 use Rattle.objects.proofs.Sizes.{sizes}
 use Rattle.objects.proofs.Judging.{blank-start, check-answered}

@@ -1,5 +1,4 @@
 -- `examine` meets its contract: the walk, then the searches, one after the other. Assumes nothing.
-use borrow.Author.Rules.{rules}
 use native.Mathlib.Omega.{arith}
 use mathlib.Core.Path.{ap}
 use Rattle.meaning.specs.Collect.{judged}

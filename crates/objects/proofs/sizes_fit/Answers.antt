@@ -1,5 +1,4 @@
 -- `sizes_fit` meets its contract: its tests are those of `sizes_fit`. Assumes nothing.
-use borrow.Author.Rules.{rules}
 use borrow.Author.Tests.{le-leb, lt-leb}
 use Rattle.objects.proofs.sizes_fit.Goals as goal
 

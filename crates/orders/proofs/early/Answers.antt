@@ -1,6 +1,5 @@
 -- `orders::early` meets its contract. Assumes nothing.
-use borrow.Author.Tests.{lt-ltb, le-ltb, not-true, not-false}
-use borrow.Author.Rules.{rules}
+use borrow.Author.Tests.{lt-ltb, le-ltb}
 use Rattle.orders.proofs.early.Goals as goal
 
 pub returns-then-hi-lo : goal.returns-then-hi-lo

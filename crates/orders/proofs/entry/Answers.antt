@@ -3,7 +3,6 @@ use native.Mathlib.Omega.{arith}
 use mathlib.Core.Path.{sym}
 use lib.ListN.{get_or-eq_default}
 use Rattle.orders.proofs.JudgedByEntries.{get_or_any}
-use borrow.Author.Rules.{rules}
 use Rattle.orders.proofs.entry.Goals as goal
 
 pub overflow_cast-result : goal.overflow_cast-result

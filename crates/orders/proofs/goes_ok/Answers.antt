@@ -1,6 +1,5 @@
 -- `orders::goes_ok` meets its contract. Assumes nothing.
 use borrow.Author.Tests.{eq-eqb, ne_eqb}
-use borrow.Author.Rules.{rules}
 use Rattle.orders.proofs.goes_ok.Goals as goal
 
 pub returns-then-k-t : goal.returns-then-k-t

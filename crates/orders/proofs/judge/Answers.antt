@@ -1,10 +1,7 @@
 -- `orders::judge` meets its contract. No position before i breaks, and the table has the steps done. Assumes nothing.
-use borrow.Author.Rules.{rules}
 use mathlib.Core.Path.{sym, ◌∙◌}
-use Prim.Native.Nat.{◌-◌}
 use native.Mathlib.Omega.{arith}
-use lib.ListN.{length}
-use Rattle.orders.proofs.Judging.{Judging, judging_start, judging-step, judging-next, judging-stop, judging-end}
+use Rattle.orders.proofs.Judging.{judging_start, judging-step, judging-next, judging-stop, judging-end}
 use Rattle.orders.proofs.judge.Goals as goal
 
 pub loop-i-init : goal.loop-i-init

@@ -6,7 +6,6 @@ use native.Mathlib.Omega.{arith}
 use Rattle.meaning.specs.Limits.{blocks_of, table_entries}
 use Rattle.meaning.specs.Places.{is_in}
 use borrow.Author.Tests.{lt-ltb, le-ltb, eq-eqb, ne_eqb}
-use borrow.Author.Rules.{rules}
 use Rattle.orders.proofs.step_breaks.Goals as goal
 
 pub returns-then-targets-t : goal.returns-then-targets-t

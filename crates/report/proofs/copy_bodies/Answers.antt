@@ -1,5 +1,4 @@
 -- `copy_bodies` meets its contract: body by body. Assumes nothing.
-use borrow.Author.Rules.{rules}
 use Rattle.report.proofs.Reporting.{order-inside, bodies-held}
 use Rattle.report.proofs.copy_bodies.Goals as goal
 

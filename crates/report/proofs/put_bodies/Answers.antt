@@ -1,5 +1,4 @@
 -- `put_bodies` meets its contract: the collection of the bodies is that of the image. Assumes nothing.
-use borrow.Author.Rules.{rules}
 use Rattle.report.proofs.Reporting.{reports_image}
 use Rattle.report.proofs.put_bodies.Goals as goal
 

@@ -1,5 +1,4 @@
 -- `put_collection` meets its contract: what the collection answers, as lines. Assumes nothing.
-use borrow.Author.Rules.{rules}
 use native.Mathlib.Omega.{arith}
 use Rattle.report.proofs.Reporting.{done-low, reports_uncollected, reports_collected}
 use Rattle.report.proofs.put_collection.Goals as goal

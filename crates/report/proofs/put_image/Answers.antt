@@ -1,5 +1,4 @@
 -- `put_image` meets its contract: the first parts of the buffers have the sizes of the bodies. Assumes nothing.
-use borrow.Author.Rules.{rules}
 use mathlib.Core.Path.{sym}
 use Rattle.meaning.specs.Image.{most_words, most_roots, most_steps}
 use Rattle.report.specs.Reports.{most_blocks}

@@ -1,5 +1,4 @@
 -- `runs::move_few` meets its contract. Assumes nothing.
-use borrow.Author.Rules.{rules}
 use native.Mathlib.Omega.{arith}
 use lib.ListN.{length-set}
 use Rattle.runs.proofs.CopiedRuns.{landed_few}

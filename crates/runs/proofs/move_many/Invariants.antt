@@ -1,9 +1,6 @@
 -- `runs::move_many` meets its contract. The first i words are copied, four by four. Assumes nothing.
-use borrow.Author.Rules.{rules}
-use mathlib.Core.Path.{◌∙◌}
 use Prim.Native.Nat.{◌-◌, ◌≤◌}
-use native.Mathlib.Omega.{arith}
-use Rattle.runs.proofs.CopiedRuns.{Landed, landed_start, landed_next, landed_last}
+use Rattle.runs.proofs.CopiedRuns.{Landed}
 use Rattle.runs.proofs.move_many.Given as goal
 
 abbrev pub invariant-loop-i : goal.invariant-loop-i

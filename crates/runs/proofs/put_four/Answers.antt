@@ -1,5 +1,4 @@
 -- `runs::put_four` meets its contract. Assumes nothing.
-use borrow.Author.Rules.{rules}
 use native.Mathlib.Omega.{arith}
 use lib.ListN.{length-set}
 use Rattle.runs.proofs.put_four.Goals as goal

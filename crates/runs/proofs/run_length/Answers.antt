@@ -1,5 +1,4 @@
 -- `runs::run_length` meets its contract. Assumes nothing.
-use borrow.Author.Rules.{rules}
 use native.Mathlib.Omega.{arith}
 use native.Mathlib.Nat.{lt_of_le_of_lt}
 use lib.Count.{trailing_le}

@@ -2,13 +2,13 @@
 use borrow.Author.Rules.{rules}
 use mathlib.Core.Path.{ap}
 use mathlib.Core.Bool.{not}
-use Prim.Native.Nat.{ℕ, ◌+◌, ◌*◌, ◌<◌}
+use Prim.Native.Nat.{◌+◌, ◌*◌, ◌<◌}
 use lib.Count.{count_trailing_zeros}
 use Rattle.meaning.specs.Limits.{block_words}
 use Rattle.bits.proofs.LowestBit.{lowest_less}
 use Rattle.bits.proofs.BitLoop.{left_next}
-use Rattle.search.specs.Search.{HoldsRef, lost_at}
-use Rattle.search.proofs.PassingBits.{Searching, searching_start, searching_found, searching_next, searching_end}
+use Rattle.search.specs.Search.{HoldsRef}
+use Rattle.search.proofs.PassingBits.{searching_start, searching_found, searching_next, searching_end}
 use Rattle.search.proofs.first_bad_in.Goals as goal
 use Rattle.search.proofs.first_bad_in.Goals.{In-loop-left}
 

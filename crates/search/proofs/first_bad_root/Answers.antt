@@ -2,12 +2,9 @@
 use borrow.Author.Count.{below_more}
 use borrow.Author.Rules.{rules}
 use mathlib.Core.Path.{◌≡◌, sym, ◌∙◌}
-use Prim.Native.Nat.{ℕ, ◌≤◌, ◌-◌}
-use lib.ListN.{length, get_or}
+use lib.ListN.{length}
 use native.Mathlib.Omega.{arith}
-use Rattle.meaning.specs.Places.{marked}
-use Rattle.meaning.specs.Collect.{dangling}
-use Rattle.search.proofs.FirstPlace.{NoneBelow, first_found, first_none}
+use Rattle.search.proofs.FirstPlace.{first_found, first_none}
 use Rattle.search.proofs.first_bad_root.Goals as goal
 
 pub loop-i-init : goal.loop-i-init

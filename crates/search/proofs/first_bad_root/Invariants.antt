@@ -1,13 +1,9 @@
 -- `search::first_bad_root` meets its contract. The loop has found no bad root below slot i. Assumes nothing.
-use borrow.Author.Count.{below_more}
-use borrow.Author.Rules.{rules}
-use mathlib.Core.Path.{◌≡◌, sym, ◌∙◌}
 use Prim.Native.Nat.{ℕ, ◌≤◌, ◌-◌}
 use lib.ListN.{length, get_or}
-use native.Mathlib.Omega.{arith}
 use Rattle.meaning.specs.Places.{marked}
 use Rattle.meaning.specs.Collect.{dangling}
-use Rattle.search.proofs.FirstPlace.{NoneBelow, first_found, first_none}
+use Rattle.search.proofs.FirstPlace.{NoneBelow}
 use Rattle.search.proofs.first_bad_root.Given as goal
 
 abbrev pub invariant-loop-i : goal.invariant-loop-i

@@ -1,13 +1,9 @@
 -- `search::first_stray` meets its contract. The loop has found no stray mark below block b. Assumes nothing.
-use borrow.Author.Rules.{rules}
-use mathlib.Core.Path.{◌≡◌}
 use Prim.Native.Nat.{◌≤◌, ◌-◌, ◌*◌}
 use lib.ListN.{length}
-use native.Mathlib.Omega.{arith}
 use Rattle.meaning.specs.Limits.{block_words}
 use Rattle.search.specs.Search.{stray}
-use Rattle.search.proofs.FirstPlace.{NoneBelow, first_none, block-found, block_none}
-use Rattle.search.proofs.InBlocks.{stray-block}
+use Rattle.search.proofs.FirstPlace.{NoneBelow}
 use Rattle.search.proofs.first_stray.Given as goal
 
 abbrev pub invariant-loop-b : goal.invariant-loop-b

@@ -1,6 +1,4 @@
 -- `search::is_dangling` meets its contract. Assumes nothing.
-use borrow.Author.Rules.{rules}
-use borrow.Author.Tests.{not-true, not-false}
 use mathlib.Core.Path.{◌≡◌, sym, ap, ◌∙◌}
 use mathlib.Core.Bool.{true}
 use Rattle.meaning.specs.Values.{is_ref}

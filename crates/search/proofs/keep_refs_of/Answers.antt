@@ -1,11 +1,9 @@
 -- `search::keep_refs_of` meets its contract. The loop has done the first b words. Assumes nothing.
 use borrow.Author.Rules.{rules}
 use mathlib.Core.Path.{sym, ◌∙◌}
-use Prim.Native.Nat.{◌≤◌, ◌-◌}
-use lib.ListN.{length, length-set}
+use lib.ListN.{length-set}
 use native.Mathlib.Omega.{arith}
-use Rattle.search.specs.Search.{ref_at}
-use Rattle.search.proofs.KeptMarks.{Keeping, keeping_start, word-left, keeping-next, keeping-end}
+use Rattle.search.proofs.KeptMarks.{keeping_start, word-left, keeping-next, keeping-end}
 use Rattle.search.proofs.keep_refs_of.Goals as goal
 
 pub loop-b-init : goal.loop-b-init

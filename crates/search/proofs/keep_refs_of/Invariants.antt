@@ -1,11 +1,8 @@
 -- `search::keep_refs_of` meets its contract. The loop has done the first b words. Assumes nothing.
-use borrow.Author.Rules.{rules}
-use mathlib.Core.Path.{sym, ◌∙◌}
 use Prim.Native.Nat.{◌≤◌, ◌-◌}
-use lib.ListN.{length, length-set}
-use native.Mathlib.Omega.{arith}
+use lib.ListN.{length}
 use Rattle.search.specs.Search.{ref_at}
-use Rattle.search.proofs.KeptMarks.{Keeping, keeping_start, word-left, keeping-next, keeping-end}
+use Rattle.search.proofs.KeptMarks.{Keeping}
 use Rattle.search.proofs.keep_refs_of.Given as goal
 
 abbrev pub invariant-loop-b : goal.invariant-loop-b

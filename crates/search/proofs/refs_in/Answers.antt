@@ -7,10 +7,9 @@ use lib.Count.{count_trailing_zeros}
 use lib.ListN.{length}
 use Rattle.meaning.specs.Limits.{block_words}
 use Rattle.meaning.specs.Values.{is_ref}
-use Rattle.search.specs.Search.{ref_at}
 use Rattle.bits.proofs.LowestBit.{lowest_less}
 use Rattle.bits.proofs.BitLoop.{left_next}
-use Rattle.search.proofs.PassingBits.{Passing, passing_start, passing_next, passing_end}
+use Rattle.search.proofs.PassingBits.{passing_start, passing_next, passing_end}
 use Rattle.search.proofs.refs_in.Goals as goal
 use Rattle.search.proofs.refs_in.Goals.{In-loop-m}
 

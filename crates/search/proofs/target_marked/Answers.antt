@@ -1,5 +1,4 @@
 -- `search::target_marked` meets its contract: half of a reference is the place that it is to. Assumes nothing.
-use borrow.Author.Rules.{rules}
 use mathlib.Core.Path.{◌≡◌, sym, ap, ◌∙◌}
 use Prim.Native.Nat.{◌/◌}
 use native.Mathlib.Omega.{arith}

@@ -1,13 +1,12 @@
 -- `copy` meets its contract: a slot's word into another. Assumes nothing.
 use mathlib.Core.Path.{◌≡◌, refl, sym, ◌∙◌}
 use mathlib.Core.Bool.{true}
-use borrow.Author.Tests.{lt-ltb, le-ltb, not-true, not-false}
+use borrow.Author.Tests.{lt-ltb, le-ltb}
 use Rattle.meaning.specs.Calls.{fits, admit}
 use Rattle.meaning.specs.Store.{view_of, answered}
 use Rattle.store.specs.declared.Said.TheVariants.{Done}
 use Rattle.store.specs.Contract.{mem_of}
 use Rattle.store.proofs.CallsLeave.{leaves-refused, leaves-told}
-use borrow.Author.Rules.{rules}
 use Rattle.slots.proofs.copy.Goals as goal
 use Rattle.slots.proofs.copy.Goals.{Else-not-fits}
 

@@ -1,7 +1,7 @@
 -- `put_int` meets its contract: an integer into a slot, and what is refused before it. Assumes nothing.
 use mathlib.Core.Path.{◌≡◌, refl, ap, sym, ◌∙◌}
 use mathlib.Core.Bool.{true}
-use borrow.Author.Tests.{lt-ltb, le-ltb, not-true, not-false}
+use borrow.Author.Tests.{lt-ltb, le-ltb}
 use lib.IntN.{ℤ}
 use mir.Syntax.{w32}
 use mir.ValLaws.{to_z-of_z}
@@ -13,7 +13,6 @@ use Rattle.meaning.specs.Values.{int, make}
 use Rattle.words.specs.Paper.{made_word}
 use Rattle.store.proofs.CallsLeave.{leaves-refused, leaves-told}
 use Rattle.slots.proofs.Making.{made_is, made_refused}
-use borrow.Author.Rules.{rules}
 use Rattle.slots.proofs.put_int.Goals as goal
 use Rattle.slots.proofs.put_int.Goals.{Else-not-fits}
 

@@ -1,13 +1,12 @@
 -- `put_nil` meets its contract: nil into a slot, and what is refused before it. Assumes nothing.
 use mathlib.Core.Path.{◌≡◌, refl, sym, ◌∙◌}
 use mathlib.Core.Bool.{true}
-use borrow.Author.Tests.{lt-ltb, le-ltb, not-true, not-false}
+use borrow.Author.Tests.{lt-ltb, le-ltb}
 use Rattle.meaning.specs.Calls.{fits, admit}
 use Rattle.meaning.specs.Store.{view_of, answered}
 use Rattle.store.specs.declared.Said.TheVariants.{Done}
 use Rattle.store.specs.Contract.{mem_of}
 use Rattle.store.proofs.CallsLeave.{leaves-refused, leaves-told}
-use borrow.Author.Rules.{rules}
 use Rattle.slots.proofs.put_nil.Goals as goal
 use Rattle.slots.proofs.put_nil.Goals.{Else-not-fits}
 

@@ -1,13 +1,12 @@
 -- `same` meets its contract: two slots compared. Assumes nothing.
 use mathlib.Core.Path.{◌≡◌, refl, sym, ◌∙◌}
 use mathlib.Core.Bool.{true}
-use borrow.Author.Tests.{lt-ltb, le-ltb, not-true, not-false}
+use borrow.Author.Tests.{lt-ltb, le-ltb}
 use Rattle.meaning.specs.Calls.{fits, admit}
 use Rattle.meaning.specs.Store.{view_of, answered}
 use Rattle.store.specs.declared.Said.TheVariants.{Same}
 use Rattle.store.specs.Contract.{mem_of}
 use Rattle.store.proofs.CallsLeave.{leaves-refused, leaves-told}
-use borrow.Author.Rules.{rules}
 use Rattle.slots.proofs.same.Goals as goal
 use Rattle.slots.proofs.same.Goals.{Else-not-fits}
 

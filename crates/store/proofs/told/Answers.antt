@@ -1,5 +1,5 @@
 -- `told` meets its contract: the count wraps on purpose. Assumes nothing.
-use Rattle.std.proofs.Common.{add-one, rules}
+use Rattle.std.proofs.Common.{add-one}
 use Rattle.store.proofs.told.Goals as goal
 
 pub returns : goal.returns

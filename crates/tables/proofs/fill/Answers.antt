@@ -1,13 +1,11 @@
 -- `tables::fill` meets its contract. Assumes nothing.
-use borrow.Author.Rules.{rules}
 use native.Mathlib.Omega.{arith}
 use mathlib.Core.Path.{refl}
-use Prim.Native.Nat.{◌*◌, ◌-◌}
-use lib.ListN.{length}
+use Prim.Native.Nat.{◌*◌}
 use Rattle.meaning.specs.Limits.{block_words}
 use Rattle.meaning.specs.Places.{marked}
 use Rattle.meaning.proofs.Counting.{below-few}
-use Rattle.tables.proofs.Filling.{Filling, filling-start, filling-next, filling-end}
+use Rattle.tables.proofs.Filling.{filling-start, filling-next, filling-end}
 use Rattle.tables.proofs.fill.Goals as goal
 
 pub loop-b-init : goal.loop-b-init

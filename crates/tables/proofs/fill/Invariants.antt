@@ -1,13 +1,7 @@
 -- `tables::fill` meets its contract. Assumes nothing.
-use borrow.Author.Rules.{rules}
-use native.Mathlib.Omega.{arith}
-use mathlib.Core.Path.{refl}
-use Prim.Native.Nat.{◌*◌, ◌-◌}
+use Prim.Native.Nat.{◌-◌}
 use lib.ListN.{length}
-use Rattle.meaning.specs.Limits.{block_words}
-use Rattle.meaning.specs.Places.{marked}
-use Rattle.meaning.proofs.Counting.{below-few}
-use Rattle.tables.proofs.Filling.{Filling, filling-start, filling-next, filling-end}
+use Rattle.tables.proofs.Filling.{Filling}
 use Rattle.tables.proofs.fill.Given as goal
 
 abbrev pub invariant-loop-b : goal.invariant-loop-b

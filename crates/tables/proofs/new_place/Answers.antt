@@ -1,5 +1,4 @@
 -- `tables::new_place` meets its contract: an exact entry counts the live words below its block. Assumes nothing.
-use borrow.Author.Rules.{rules}
 use native.Mathlib.Omega.{arith}
 use Rattle.meaning.specs.Places.{marked}
 use Rattle.meaning.proofs.Counting.{below-few}

@@ -1,16 +1,14 @@
 -- `tables::new_to_old` meets its contract. Assumes nothing.
-use borrow.Author.Rules.{rules}
 use borrow.Author.Tests.{lt-leb, eq-eqb, ne_eqb}
 use mathlib.Core.Path.{sym}
 use native.Mathlib.Omega.{arith}
-use Prim.Native.Nat.{◌-◌}
 use lib.ListN.{length, get_or}
 use Rattle.meaning.specs.Limits.{block_words, table_entries}
 use Rattle.meaning.specs.Places.{bit_set}
 use Rattle.meaning.specs.Lookups.{new_to_old}
 use Rattle.meaning.proofs.Counting.{src-within}
 use Rattle.meaning.proofs.LookupsInverse.{TablesFit}
-use Rattle.tables.proofs.Searching.{Searching, searching_start, searching_next, searching_found, searching_end}
+use Rattle.tables.proofs.Searching.{searching_start, searching_next, searching_found, searching_end}
 use Rattle.tables.proofs.new_to_old.Goals as goal
 use Rattle.tables.proofs.new_to_old.Goals.{Else-blocks-gt-TABLE_ENTRIES}
 

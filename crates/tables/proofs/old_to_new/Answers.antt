@@ -1,6 +1,5 @@
 -- `tables::old_to_new` meets its contract: its tests are those of the definition, in the same order. Assumes nothing.
-use borrow.Author.Rules.{rules}
-use borrow.Author.Tests.{lt-leb, eq-eqb, ne_eqb, not-true, not-false}
+use borrow.Author.Tests.{lt-leb, eq-eqb, ne_eqb}
 use mathlib.Core.Path.{sym, ◌∙◌}
 use native.Mathlib.Omega.{arith}
 use Prim.Native.Nat.{◌/◌, ◌%◌}

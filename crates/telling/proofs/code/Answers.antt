@@ -1,5 +1,4 @@
 -- `code` meets its contract: a refusal's number, and 0 for anything else. Assumes nothing.
-use borrow.Author.Rules.{rules}
 use Prim.Native.Nat.{ℕ}
 use mathlib.Core.Path.{◌≡◌, refl}
 use Rattle.store.specs.declared.Said.{Said}

@@ -1,9 +1,6 @@
 -- `say` meets its contract, case by case. Assumes nothing.
 use borrow.Author.Rules.{rules}
-use mathlib.Core.Path.{refl, ap, ◌∙◌}
-use mir.Syntax.{w32}
-use mir.ValLaws.{to_z-of_z}
-use Rattle.telling.specs.Out.{bits64}
+use mathlib.Core.Path.{refl}
 use Rattle.telling.proofs.Saying.{says-integer, says_bool}
 use Rattle.telling.proofs.say.Goals as goal
 

@@ -1,5 +1,4 @@
 -- `say_checked` meets its contract, case by case. Assumes nothing.
-use borrow.Author.Rules.{rules}
 use mathlib.Core.Path.{refl}
 use Rattle.telling.proofs.say_checked.Goals as goal
 

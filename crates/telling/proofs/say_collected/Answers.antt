@@ -1,5 +1,4 @@
 -- `say_collected` meets its contract, case by case. Assumes nothing.
-use borrow.Author.Rules.{rules}
 use mathlib.Core.Path.{refl}
 use Rattle.telling.proofs.say_collected.Goals as goal
 

@@ -1,5 +1,4 @@
 -- `say_lookup` meets its contract, case by case. Assumes nothing.
-use borrow.Author.Rules.{rules}
 use mathlib.Core.Path.{refl}
 use Rattle.telling.proofs.Saying.{says_place}
 use Rattle.telling.proofs.say_lookup.Goals as goal

@@ -1,10 +1,8 @@
 -- `text::put_bytes` meets its contract. The loop has placed the first i bytes. Assumes nothing.
-use Prim.Native.Nat.{◌+◌, ◌-◌, ◌≤◌}
-use mathlib.Core.Path.{◌≡◌, refl}
+use mathlib.Core.Path.{refl}
 use native.Mathlib.Omega.{arith}
 use borrow.Author.Rules.{rules}
-use lib.ListN.{length, take, length-set}
-use Rattle.text.specs.Placed.{Placed}
+use lib.ListN.{length-set}
 use Rattle.text.proofs.Placing.{bytes_start, bytes_next, bytes_end}
 use Rattle.text.proofs.put_bytes.Goals as goal
 

@@ -1,11 +1,8 @@
 -- `text::put_bytes` meets its contract. The loop has placed the first i bytes. Assumes nothing.
 use Prim.Native.Nat.{◌+◌, ◌-◌, ◌≤◌}
-use mathlib.Core.Path.{◌≡◌, refl}
-use native.Mathlib.Omega.{arith}
-use borrow.Author.Rules.{rules}
-use lib.ListN.{length, take, length-set}
+use mathlib.Core.Path.{◌≡◌}
+use lib.ListN.{length, take}
 use Rattle.text.specs.Placed.{Placed}
-use Rattle.text.proofs.Placing.{bytes_start, bytes_next, bytes_end}
 use Rattle.text.proofs.put_bytes.Given as goal
 
 abbrev pub invariant-loop-i : goal.invariant-loop-i

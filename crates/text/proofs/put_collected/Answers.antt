@@ -1,7 +1,5 @@
 -- `text::put_collected` meets its contract. Assumes nothing.
-use mathlib.Core.Path.{sym}
 use native.Mathlib.Omega.{arith}
-use borrow.Author.Rules.{rules}
 use lib.Seq.{length-take-le}
 use Rattle.meaning.specs.Text.{words_line}
 use Rattle.text.proofs.Placing.{placed-then, placed-within}

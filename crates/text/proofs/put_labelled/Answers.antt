@@ -1,5 +1,4 @@
 -- `text::put_labelled` meets its contract. Assumes nothing.
-use borrow.Author.Rules.{rules}
 use Rattle.text.proofs.Placing.{placed-then}
 use Rattle.text.proofs.put_labelled.Goals as goal
 

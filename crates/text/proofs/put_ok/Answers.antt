@@ -1,5 +1,4 @@
 -- `text::put_ok` meets its contract. Assumes nothing.
-use borrow.Author.Rules.{rules}
 use Rattle.meaning.specs.Text.{ok_line}
 use Rattle.text.proofs.Placing.{placed-then, placed_labelled}
 use Rattle.text.proofs.put_ok.Goals as goal

@@ -1,5 +1,4 @@
 -- `text::put_refused` meets its contract. Assumes nothing.
-use borrow.Author.Rules.{rules}
 use Rattle.meaning.specs.Text.{refused_line}
 use Rattle.text.proofs.Placing.{placed-then, placed_labelled}
 use Rattle.text.proofs.put_refused.Goals as goal

@@ -1,12 +1,9 @@
 -- `text::put_words` meets its contract. The loop has placed the first i words. Assumes nothing.
 use Prim.Native.Nat.{◌*◌, ◌-◌, ◌≤◌}
-use mathlib.Core.Path.{◌≡◌, refl, ◌∙◌}
-use native.Mathlib.Omega.{arith}
-use borrow.Author.Rules.{rules}
+use mathlib.Core.Path.{◌≡◌}
 use lib.ListN.{length, take}
 use Rattle.meaning.specs.Text.{spaced}
 use Rattle.text.specs.Placed.{Placed}
-use Rattle.text.proofs.Placing.{words-start, words_next, words_end}
 use Rattle.text.proofs.put_words.Given as goal
 
 abbrev pub invariant-loop-i : goal.invariant-loop-i

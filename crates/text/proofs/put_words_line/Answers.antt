@@ -1,5 +1,4 @@
 -- `text::put_words_line` meets its contract. Assumes nothing.
-use borrow.Author.Rules.{rules}
 use Rattle.text.proofs.Placing.{placed-then}
 use Rattle.text.proofs.put_words_line.Goals as goal
 

@@ -1,12 +1,8 @@
 -- `walk::walk` meets its contract. At each turn the objects before `p` are sound and noted. Assumes nothing.
-use borrow.Author.Rules.{rules}
-use borrow.Author.Tests.{not-true, not-false}
 use mathlib.Core.Path.{refl, sym, ◌∙◌}
-use Prim.Native.Nat.{◌-◌}
 use native.Mathlib.Omega.{arith}
-use Rattle.meaning.specs.Places.{marked}
 use Rattle.meaning.proofs.Walking.{walking-illegal, walking-past}
-use Rattle.walk.proofs.WalkLaws.{Passing, passing_start, passing_next, passing_stop, passing_end}
+use Rattle.walk.proofs.WalkLaws.{passing_start, passing_next, passing_stop, passing_end}
 use Rattle.walk.proofs.walk.Goals as goal
 
 pub objects-init : goal.objects-init

@@ -1,5 +1,4 @@
 -- `hasurimba_put_integer` meets its contract: the code holds the value itself. Assumes nothing.
-use borrow.Author.Rules.{rules}
 use mir.Facts.{to_z-of_z}
 use Rattle.hasurimba.proofs.calls.hasurimba_put_integer.Goals as goal
 

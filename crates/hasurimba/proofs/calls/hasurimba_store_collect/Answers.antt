@@ -1,5 +1,4 @@
 -- `hasurimba_store_collect` meets its contract: the store's answer, said. Assumes nothing.
-use borrow.Author.Rules.{rules}
 use Rattle.keeping.proofs.KeptStore.{says-collect}
 use Rattle.hasurimba.proofs.calls.hasurimba_store_collect.Goals as goal
 

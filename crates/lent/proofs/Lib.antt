@@ -1,4 +1,2 @@
--- What the walks of this crate share, and what they prove.
-pub mod Frames
-pub mod Lending
+-- What the promises of this crate settle.
 pub mod Promised

@@ -8,9 +8,9 @@ use store::{Call, Said, Store};
 
 // Every call that borrows heap and slots alone: what is said, and the record, heap and slots after.
 pub fn answer(store: &mut Store, heap: &mut [u32], roots: &mut [u32], call: Call) -> Said
-    ensures { Leaves (mem_of heap.old roots.old store.entry.now)
-        (answered (mem_of heap.old roots.old store.entry.now) (call_of call))
-        (record { store = store.exit.now; said = result }) heap.new roots.new }
+    ensures { Leaves (mem_of heap.old roots.old store.old)
+        (answered (mem_of heap.old roots.old store.old) (call_of call))
+        (record { store = store.new; said = result }) heap.new roots.new }
 {
     let answer = calling::answer(*store, heap, roots, call);
     *store = answer.store;
@@ -27,9 +27,9 @@ pub fn collect(
     live: &mut [u64],
     offsets: &mut [u32],
 ) -> Said
-    ensures { LeavesCollected (mem_of heap.old roots.old store.entry.now)
+    ensures { LeavesCollected (mem_of heap.old roots.old store.old)
         (brought_of marks.old order.now live.old offsets.old)
-        (record { store = store.exit.now; said = result }) heap.new roots.new
+        (record { store = store.new; said = result }) heap.new roots.new
         marks.new live.new offsets.new }
 {
     let collected = calling::collect(*store, heap, roots, marks, order, live, offsets);

@@ -2,6 +2,8 @@
 // of steps; then heap, roots and the steps. A step is a call's number and three words, or 11 with what a collection brings.
 use crate::case::{HEAP_ROOM, ROOT_ROOM, TABLE_ROOM};
 use crate::{case, digest, say};
+use std::io;
+use std::io::Write;
 use store::{Answer, Call, Said, Store};
 
 const COLLECT: u32 = 11;
@@ -199,7 +201,14 @@ fn take_steps(
 }
 
 // The whole sequence, as a line.
-fn say_steps(case: &[u8], first: usize, steps: usize, heap: &mut [u32], roots: &mut [u32]) {
+fn say_steps<W: Write>(
+    out: &mut W,
+    case: &[u8],
+    first: usize,
+    steps: usize,
+    heap: &mut [u32],
+    roots: &mut [u32],
+) -> io::Result<()> {
     let start = Passed {
         at: first,
         store: Store {
@@ -212,15 +221,15 @@ fn say_steps(case: &[u8], first: usize, steps: usize, heap: &mut [u32], roots: &
     let passed = take_steps(case, start, steps, heap, roots);
     let record = passed.store;
     let said = passed.said;
-    say::calls(record, passed.digest);
+    say::calls(out, record, passed.digest)?;
     if steps == 0 {
-        say::nothing_said();
+        say::nothing_said(out)
     } else {
-        say::said(said);
+        say::said(out, said)
     }
 }
 
-pub fn calls(case: &[u8]) {
+pub fn calls<W: Write>(out: &mut W, case: &[u8]) -> io::Result<()> {
     let heap_words = case::word(case, 4) as usize;
     let slots = case::word(case, 5) as usize;
     let steps = case::word(case, 6) as usize;
@@ -231,22 +240,21 @@ pub fn calls(case: &[u8]) {
         & (steps <= case.len() / 16)
         & (case.len() % 4 == 0);
     if !fits {
-        say::skipped();
-        return;
+        return say::skipped(out);
     }
     if end_of(case, at_steps, steps) != case.len() / 4 {
-        say::skipped();
-        return;
+        return say::skipped(out);
     }
     let mut heap = [0u32; HEAP_ROOM];
     let mut roots = [0u32; ROOT_ROOM];
     let heap_words = case::words(case, 7, heap_words, &mut heap);
     let slots = case::words(case, at_roots, slots, &mut roots);
     say_steps(
+        out,
         case,
         at_steps,
         steps,
         &mut heap[..heap_words],
         &mut roots[..slots],
-    );
+    )
 }

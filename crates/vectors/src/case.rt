@@ -1,6 +1,5 @@
 // A case's words, out of its bytes. A case may hold anything: past its end the words are 0.
-ghost use Rattle.std.specs.Prelude.{◌+◌, ◌*◌, ◌<◌, ◌≤◌};
-ghost use Rattle.io.specs.Counts.{IsPrefixLen};
+ghost use Rattle.std.specs.Prelude.{◌≡◌, ◌+◌, ◌*◌, ◌<◌, ◌≤◌, length, take};
 
 // The buffers are larger than the library's limits, so that it is seen to refuse what is too long.
 pub const HEAP_ROOM: usize = 8256;
@@ -44,7 +43,7 @@ fn least(a: usize, b: usize) -> usize
 // Puts n words from number `from` on into the buffer, or as many as it holds, and answers how many.
 pub fn words(case: &[u8], from: usize, n: usize, buffer: &mut [u32]) -> usize
     requires { from + n < 18446744073709551615 }
-    ensures { IsPrefixLen result buffer.new }
+    ensures { (result ≤ length buffer.new) × (result ≡ length (take result buffer.new)) }
 {
     let end = least(n, buffer.len());
     let mut i = 0;
@@ -58,7 +57,7 @@ pub fn words(case: &[u8], from: usize, n: usize, buffer: &mut [u32]) -> usize
 // The same for words of 64 bits.
 pub fn pairs(case: &[u8], from: usize, n: usize, buffer: &mut [u64]) -> usize
     requires { from + 2 * n < 18446744073709551615 }
-    ensures { IsPrefixLen result buffer.new }
+    ensures { (result ≤ length buffer.new) × (result ≡ length (take result buffer.new)) }
 {
     let end = least(n, buffer.len());
     let mut i = 0;

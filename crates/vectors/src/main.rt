@@ -2,41 +2,50 @@
 // little-endian words: a kind, the lengths, the data. The answers are all the library's.
 #![tactic(auto)]
 
+use input::read_full;
+use std::io;
+use std::io::{BufReader, BufWriter, Read, Write};
+
 mod calls;
 mod case;
 mod digest;
 mod run;
 mod say;
 
-use libc::STDIN_FILENO;
-
 // Runs the case that fills the buffer, or what the input still has of it.
-fn read_case(buffer: &mut [u8]) {
-    let n = io::read_full(STDIN_FILENO, buffer);
-    run::run(&buffer[..n]);
+fn read_case<R: Read, W: Write>(input: &mut R, out: &mut W, buffer: &mut [u8]) -> io::Result<()> {
+    let n = read_full(input, buffer);
+    run::run(out, &buffer[..n])
 }
 
 // Runs the next case; false where there is none, or where one is longer than any may be.
-fn next() -> bool {
+fn next<R: Read, W: Write>(input: &mut R, out: &mut W) -> io::Result<bool> {
     let mut length = [0u8; 4];
-    if io::read_full(STDIN_FILENO, &mut length) < 4 {
-        return false;
+    if read_full(input, &mut length) < 4 {
+        return Ok(false);
     }
-    let bytes = case::word(&length, 0);
-    let mut space = io::large_buffer();
+    let bytes = case::word(&length, 0) as usize;
+    let mut space = [0u8; 65536];
     if 65536 < bytes {
-        say::skipped();
-        return false;
+        say::skipped(out)?;
+        return Ok(false);
     }
-    let n = io::count(bytes as isize, &space);
-    read_case(&mut space[..n]);
-    true
+    read_case(input, out, &mut space[..bytes])?;
+    Ok(true)
 }
 
 // Nothing says that the input ends, so the cases are counted too.
-fn main() {
-    let mut left = 4294967295u64;
-    while left > 0 && next() {
-        left -= 1;
+fn run_all<R: Read, W: Write>(input: &mut R, out: &mut W) -> io::Result<()> {
+    for _ in 0..4294967295u64 {
+        if !next(input, out)? {
+            break;
+        }
     }
+    out.flush()
+}
+
+fn main(rt: HostRuntime) -> io::Result<()> {
+    let mut input = BufReader::new(rt.alloc(), rt.reader())?;
+    let mut out = BufWriter::new(rt.alloc(), io::writer(&rt))?;
+    run_all(&mut input, &mut out)
 }

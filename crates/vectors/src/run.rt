@@ -1,23 +1,25 @@
 // One case of each kind.
 use crate::case::{HEAP_ROOM, ROOT_ROOM, TABLE_ROOM};
 use crate::{calls, case, digest, say};
+use std::io;
+use std::io::Write;
 use words::Place;
 
 // The answer to one case, as a line.
-pub fn run(case: &[u8]) {
+pub fn run<W: Write>(out: &mut W, case: &[u8]) -> io::Result<()> {
     match case::word(case, 0) {
-        0 => read(case),
-        1 => check(case),
-        2 => lookups(case),
-        3 => collect(case),
-        4 => calls::calls(case),
-        5 => image(case),
-        _ => say::skipped(),
+        0 => read(out, case),
+        1 => check(out, case),
+        2 => lookups(out, case),
+        3 => collect(out, case),
+        4 => calls::calls(out, case),
+        5 => image(out, case),
+        _ => say::skipped(out),
     }
 }
 
 // Kind 0: only reads, so that a fault in reading shows by itself.
-fn read(case: &[u8]) {
+fn read<W: Write>(out: &mut W, case: &[u8]) -> io::Result<()> {
     let heap_words = case::word(case, 1) as usize;
     let blocks = case::word(case, 2) as usize;
     let at_marks = 3 + heap_words;
@@ -25,21 +27,23 @@ fn read(case: &[u8]) {
         & (blocks <= TABLE_ROOM)
         & (case.len() == 4 * (at_marks + 2 * blocks));
     if !fits {
-        say::skipped();
-        return;
+        return say::skipped(out);
     }
     let mut heap = [0u32; HEAP_ROOM];
     let mut marks = [0u64; TABLE_ROOM];
     let heap_words = case::words(case, 3, heap_words, &mut heap);
     let blocks = case::pairs(case, at_marks, blocks, &mut marks);
-    say::digest(digest::pairs(
-        digest::words(digest::START, &heap[..heap_words]),
-        &marks[..blocks],
-    ));
+    say::digest(
+        out,
+        digest::pairs(
+            digest::words(digest::START, &heap[..heap_words]),
+            &marks[..blocks],
+        ),
+    )
 }
 
 // Kind 1: the check. Top, the lengths of heap, roots and marks; then these.
-fn check(case: &[u8]) {
+fn check<W: Write>(out: &mut W, case: &[u8]) -> io::Result<()> {
     let top = case::word(case, 1);
     let heap_words = case::word(case, 2) as usize;
     let slots = case::word(case, 3) as usize;
@@ -51,8 +55,7 @@ fn check(case: &[u8]) {
         & (blocks <= TABLE_ROOM)
         & (case.len() == 4 * (at_marks + 2 * blocks));
     if !fits {
-        say::skipped();
-        return;
+        return say::skipped(out);
     }
     let mut heap = [0u32; HEAP_ROOM];
     let mut roots = [0u32; ROOT_ROOM];
@@ -60,11 +63,14 @@ fn check(case: &[u8]) {
     let heap_words = case::words(case, 5, heap_words, &mut heap);
     let slots = case::words(case, at_roots, slots, &mut roots);
     let blocks = case::pairs(case, at_marks, blocks, &mut marks);
-    say::checked(objects::check(&heap[..heap_words], top, &roots[..slots], &marks[..blocks]));
+    say::checked(
+        out,
+        objects::check(&heap[..heap_words], top, &roots[..slots], &marks[..blocks]),
+    )
 }
 
 // Kind 2: both lookups. The lengths of the live and offset tables, a place; then the tables.
-fn lookups(case: &[u8]) {
+fn lookups<W: Write>(out: &mut W, case: &[u8]) -> io::Result<()> {
     let blocks = case::word(case, 1) as usize;
     let entries = case::word(case, 2) as usize;
     let place = Place::at(case::word(case, 3));
@@ -73,21 +79,22 @@ fn lookups(case: &[u8]) {
         & (entries <= TABLE_ROOM)
         & (case.len() == 4 * (at_offsets + entries));
     if !fits {
-        say::skipped();
-        return;
+        return say::skipped(out);
     }
     let mut live = [0u64; TABLE_ROOM];
     let mut offsets = [0u32; TABLE_ROOM];
     let blocks = case::pairs(case, 4, blocks, &mut live);
     let entries = case::words(case, at_offsets, entries, &mut offsets);
     say::lookups(
+        out,
         tables::old_to_new(&live[..blocks], &offsets[..entries], place),
         tables::new_to_old(&live[..blocks], &offsets[..entries], place),
-    );
+    )
 }
 
 // Runs the collection; the line has its answer and a digest of all that it left.
-fn say_collected(
+fn say_collected<W: Write>(
+    out: &mut W,
     heap: &mut [u32],
     top: u32,
     roots: &mut [u32],
@@ -95,18 +102,19 @@ fn say_collected(
     order: &[u32],
     live: &mut [u64],
     offsets: &mut [u32],
-) {
+) -> io::Result<()> {
     let answer = compactor::collect(heap, top, roots, marks, order, live, offsets);
     let left = digest::pairs(
         digest::words(digest::words(digest::START, heap), roots),
         marks,
     );
     let left = digest::words(digest::pairs(digest::words(left, order), live), offsets);
-    say::collection(answer, left);
+    say::collection(out, answer, left)
 }
 
 // The collection's buffers by their lengths, one after the other in the case.
-fn collect_words(
+fn collect_words<W: Write>(
+    out: &mut W,
     case: &[u8],
     heap_words: u32,
     slots: u32,
@@ -114,7 +122,7 @@ fn collect_words(
     steps: u32,
     lives: u32,
     entries: u32,
-) {
+) -> io::Result<()> {
     let at_roots = 8 + heap_words as usize;
     let at_marks = at_roots + slots as usize;
     let at_order = at_marks + 2 * (blocks as usize);
@@ -133,6 +141,7 @@ fn collect_words(
     let lives = case::pairs(case, at_live, lives as usize, &mut live);
     let entries = case::words(case, at_offsets, entries as usize, &mut offsets);
     say_collected(
+        out,
         &mut heap[..heap_words],
         case::word(case, 1),
         &mut roots[..slots],
@@ -140,11 +149,11 @@ fn collect_words(
         &order[..steps],
         &mut live[..lives],
         &mut offsets[..entries],
-    );
+    )
 }
 
 // Kind 3: the collection. Top, the lengths of heap, roots, marks, order, live and offset table; then these.
-fn collect(case: &[u8]) {
+fn collect<W: Write>(out: &mut W, case: &[u8]) -> io::Result<()> {
     let heap_words = case::word(case, 2);
     let slots = case::word(case, 3);
     let blocks = case::word(case, 4);
@@ -161,18 +170,17 @@ fn collect(case: &[u8]) {
         & (entries as usize <= TABLE_ROOM)
         & (case.len() == 4 * (8 + words + 2 * pairs));
     if fits {
-        collect_words(case, heap_words, slots, blocks, steps, lives, entries);
+        collect_words(out, case, heap_words, slots, blocks, steps, lives, entries)
     } else {
-        say::skipped();
+        say::skipped(out)
     }
 }
 
 // Kind 5: an image, and all that the program compact prints for it. Its length in bytes; then these, filled up to a whole word.
-fn image(case: &[u8]) {
+fn image<W: Write>(out: &mut W, case: &[u8]) -> io::Result<()> {
     let bytes = case::word(case, 1) as usize;
     if case.len() != 8 + 4 * ((bytes + 3) / 4) {
-        say::skipped();
-        return;
+        return say::skipped(out);
     }
-    say::report(&case[8..8 + bytes]);
+    say::report(out, &case[8..8 + bytes])
 }

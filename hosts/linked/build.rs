@@ -17,6 +17,6 @@ fn main() {
             "cargo::error=the static library is missing: {}",
             archive.display()
         );
-        println!("cargo::error=build it first: rt staticlib hasurimba, in the folder above hosts");
+        println!("cargo::error=build it first: tools/build hasurimba, in the folder above hosts");
     }
 }

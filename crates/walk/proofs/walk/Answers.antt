@@ -3,6 +3,7 @@ use mathlib.Core.Path.{refl, sym, ◌∙◌}
 use native.Mathlib.Omega.{arith}
 use Rattle.meaning.proofs.Walking.{walking-illegal, walking-past}
 use Rattle.walk.proofs.WalkLaws.{passing_start, passing_next, passing_stop, passing_end}
+use borrow.Author.Rules.{rules}
 use Rattle.walk.proofs.walk.Goals as goal
 
 pub objects-init : goal.objects-init
@@ -15,7 +16,7 @@ pub objects-preserved : goal.objects-preserved
 objects-preserved c =
     passing_next c.objects.invariant _ _ _ _ (omega arith) refl
     (sym c.is_legal.ensures ∙ c.if-not-is_legal.false) (omega arith)
-    (rw c.test-kept.ensures at c.note.ensures)
+    (search rules)
 
 pub returns-then-p-top : goal.returns-then-p-top
 returns-then-p-top c = passing_end c.objects.invariant c.if-p-top.true

@@ -4,7 +4,7 @@
 
 use input::read_full;
 use std::io;
-use std::io::{BufReader, BufWriter, Read, Write};
+use std::io::{Read, Write};
 
 mod calls;
 mod case;
@@ -41,11 +41,9 @@ fn run_all<R: Read, W: Write>(input: &mut R, out: &mut W) -> io::Result<()> {
             break;
         }
     }
-    out.flush()
+    Ok(())
 }
 
 fn main(rt: HostRuntime) -> io::Result<()> {
-    let mut input = BufReader::new(rt.alloc(), rt.reader())?;
-    let mut out = BufWriter::new(rt.alloc(), io::writer(&rt))?;
-    run_all(&mut input, &mut out)
+    run_all(&mut rt.reader(), &mut io::writer(&rt))
 }

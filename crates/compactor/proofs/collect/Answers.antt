@@ -1,6 +1,6 @@
 -- `collect` meets its contract: refusal 1, then what preparing says, and where it is ready the last phase. Assumes nothing.
 use native.Mathlib.Omega.{arith}
-use mathlib.Core.Path.{◌≡◌, sym, ◌∙◌}
+use mathlib.Core.Path.{◌≡◌}
 use mathlib.Core.Bool.{true, false}
 use lib.ListN.{replicate}
 use Rattle.meaning.specs.Limits.{table_entries}
@@ -11,37 +11,31 @@ use Rattle.compactor.specs.Phases.{Fit}
 use Rattle.compactor.proofs.Preparing.{misordered_low}
 use Rattle.compactor.proofs.Collecting.{collects_unfit, collects_unsound, collects_misordered, sorted_finishable, collects-done}
 use Rattle.compactor.proofs.collect.Goals as goal
-use Rattle.compactor.proofs.collect.Goals.{Else-not-sizes_fit, Else-not-tables_fit}
-
-sizes-fit : (c : Else-not-sizes_fit) → sizes_fit c.args.heap.now c.args.top c.args.roots.now c.args.marks.now ≡ true
-sizes-fit c = sym c.sizes_fit.ensures ∙ c.if-not-sizes_fit.false
+use Rattle.compactor.proofs.collect.Goals.{Else-not-tables_fit}
 
 -- refused by 1
 pub returns-then-not-sizes_fit : goal.returns-then-not-sizes_fit
 returns-then-not-sizes_fit c =
     let a = c.args in
-    let e : sizes_fit a.heap.now a.top a.roots.now a.marks.now ≡ false = sym c.sizes_fit.ensures ∙ c.if-not-sizes_fit.true in
+    let e : sizes_fit a.heap.now a.top a.roots.now a.marks.now ≡ false = cc in
     collects_unfit a.heap.now a.top a.roots.now a.marks.now a.order.now a.live.now a.offsets.now (rw e)
 
 pub tables_fit-requires : goal.tables_fit-requires
 tables_fit-requires c =
     let a = c.args in
-    (sizes a.heap.now a.top a.roots.now a.marks.now (sizes-fit (goal.at.tables_fit-requires c).Else-not-sizes_fit)).small
+    let f : sizes_fit a.heap.now a.top a.roots.now a.marks.now ≡ true = cc in
+    (sizes a.heap.now a.top a.roots.now a.marks.now f).small
 
 pub returns-then-not-tables_fit : goal.returns-then-not-tables_fit
 returns-then-not-tables_fit c =
     let a = c.args in
-    let u : tables_fit a.heap.now a.order.now a.live.now a.offsets.now ≡ false = sym c.tables_fit.ensures ∙ c.if-not-tables_fit.true in
-    collects_unfit a.heap.now a.top a.roots.now a.marks.now a.order.now a.live.now a.offsets.now
-    (rw (sizes-fit (goal.at.returns-then-not-tables_fit c).Else-not-sizes_fit, u))
+    let f : sizes_fit a.heap.now a.top a.roots.now a.marks.now ≡ true = cc in
+    let u : tables_fit a.heap.now a.order.now a.live.now a.offsets.now ≡ false = cc in
+    collects_unfit a.heap.now a.top a.roots.now a.marks.now a.order.now a.live.now a.offsets.now (rw (f, u))
 
 -- past refusal 1
 fit : (c : Else-not-tables_fit) → let a = c.args in Fit a.heap.now a.top a.roots.now a.marks.now a.order.now a.live.now a.offsets.now (replicate table_entries 0)
-fit c = record {
-  sizes = sym c.sizes_fit.ensures ∙ c.if-not-sizes_fit.false;
-  tables = sym c.tables_fit.ensures ∙ c.if-not-tables_fit.false;
-  blank = marked_zeros table_entries;
-}
+fit c = record { sizes = cc; tables = cc; blank = marked_zeros table_entries }
 
 pub prepare-prepared-requires : goal.prepare-prepared-requires
 prepare-prepared-requires c = fit (goal.at.prepare-prepared-requires c).Else-not-tables_fit

@@ -35,7 +35,9 @@ same c = to_z-of_z c.ranges.v
 
 pub returns-then-not-has_word : goal.returns-then-not-has_word
 unfolding make
-returns-then-not-has_word c = rw (rw (same (goal.at.returns-then-not-has_word c).Start) at c.if-not-has_word.true)
+returns-then-not-has_word c =
+    let none : has_word (int c.args.v) ≡ false = rw (same (goal.at.returns-then-not-has_word c).Start) at c.if-not-has_word.true in
+    rw none
 
 pub returns-then-v-lt0 : goal.returns-then-v-lt0
 unfolding make

@@ -32,7 +32,7 @@ unfolding value_of
 returns-then-w-eq0 c =
     let h = half (goal.at.returns-then-w-eq0 c).Then-w-eq0 in
     let fits = less-fits (c.args.self.0 / 2) 2147483648 h (omega arith) (le_or_lt _ _) in
-    rw (to_z_pos w32 h, to_z-of_z fits) (simp (eq-eqb _ _ c.if-w-eq0.true, le-ltb _ _ c.if-w-lt2147483648.false))
+    simp (to_z_pos w32 h, to_z-of_z fits, eq-eqb _ _ c.if-w-eq0.true, le-ltb _ _ c.if-w-lt2147483648.false)
 
 pub returns-then-w : goal.returns-then-w
 unfolding value_of

@@ -1,3 +1,2 @@
 -- What follows from the definitions, in files named after what they say.
-pub mod Put
 pub mod BirthsAre

@@ -1,5 +1,5 @@
 -- Stretches of a bitmap: the next marked place, and a range of places marked.
-use Rattle.std.specs.Prelude.{ℕ, ◌-◌, ◌*◌, ◌≡◌, Bool, ◌&&◌, ◌||◌, List, leb, ltb, length, get_or}
+use Rattle.std.specs.Prelude.{Option, slice_get, ℕ, ◌-◌, ◌*◌, ◌≡◌, Bool, ◌&&◌, ◌||◌, List, leb, ltb, length}
 use Rattle.meaning.specs.Limits.{block_words}
 use Rattle.meaning.specs.Places.{places_from, marked, bitmap}
 
@@ -7,9 +7,9 @@ use Rattle.meaning.specs.Places.{places_from, marked, bitmap}
 abbrev pub end_of : List ℕ → ℕ
 end_of m = block_words * length m
 
--- the lowest marked place from p on; the end where there is none
-unfoldable pub next_set : List ℕ → ℕ → ℕ
-next_set m p = get_or (places_from (marked m) p (end_of m - p)) 0 (end_of m)
+-- the lowest marked place from p on, if there is one
+unfoldable pub next_set : List ℕ → ℕ → Option ℕ
+next_set m p = slice_get (places_from (marked m) p (end_of m - p)) 0
 
 -- from ≤ q < to
 abbrev pub between : ℕ → ℕ → ℕ → Bool

@@ -1,23 +1,23 @@
 // Bitmaps in lent words: bit i, least first, of word b stands for place 64 b + i.
 #![tactic(auto)]
 
-ghost use Rattle.std.specs.Prelude.{◌≡◌, ◌||◌, ℕ, ◌+◌, ◌-◌, ◌*◌, ◌%◌, ◌<◌, ◌≤◌, min, length, replicate};
+ghost use Rattle.std.specs.Prelude.{◌≡◌, ◌||◌, ℕ, ◌+◌, ◌-◌, ◌*◌, ◌%◌, ◌^◌, ◌<◌, ◌≤◌, min, List, length, replicate};
+ghost use Rattle.std.specs.Iterator.{YieldsFirst, item_count};
 ghost use Rattle.meaning.specs.Limits.{block_words, table_entries};
 ghost use Rattle.meaning.specs.Places.{below, src, bit_set, marked};
+ghost use Rattle.bits.specs.SetBits.{set_places, set_in};
 ghost use Rattle.bits.specs.Ranges.{end_of, next_set, between, Gains, set_range};
 
 use limits::BLOCK_WORDS;
+use std::marker::Model;
 
 // Whether place p is marked; outside the bitmap none is.
+#[tactic(auto, using(meaning::proofs::Bitmaps::marked_out), unfolding(meaning::specs::Places::marked))]
 pub fn test(map: &[u64], p: usize) -> bool
     ensures { result ≡ marked map.now p }
 {
     let b = p / BLOCK_WORDS;
-    if b < map.len() {
-        (map[b] >> (p % BLOCK_WORDS)) % 2 == 1
-    } else {
-        false
-    }
+    b < map.len() && (map[b] >> (p % BLOCK_WORDS)) % 2 == 1
 }
 
 // How many of the i lowest bits of a word are set.
@@ -25,60 +25,88 @@ pub fn ones_below(word: u64, i: u32) -> u32
     requires { i < block_words }
     ensures { result ≡ below (bit_set word) i }
 {
-    u64::count_ones(word % (1u64 << i))
+    (word % (1u64 << i)).count_ones()
 }
 
 // How many bits of a word are set.
 pub fn ones(word: u64) -> u32
     ensures { result ≡ below (bit_set word) block_words }
 {
-    u64::count_ones(word)
+    word.count_ones()
 }
 
-// How many places of the first n words are marked.
-fn count_words(map: &[u64], n: usize) -> usize
-    requires { (n ≤ length map.now) × (length map.now ≤ table_entries) }
-    ensures { result ≡ below (marked map.now) (block_words * n) }
+// How many bits of the words are set.
+fn count_words(words: &[u64]) -> usize
+    requires { set_in words.now < 2 ^ 64 }
+    ensures { result ≡ set_in words.now }
 {
-    let mut sum: usize = 0;
-    let mut b = 0;
-    while b < n {
-        sum += ones(map[b]) as usize;
-        b += 1;
-    }
-    sum
+    words.iter().map(|word| ones(*word) as usize).sum()
 }
 
-// How many places below p are marked.
+// How many places below p are marked. That the words are few is asked here and wherever else places are counted, and not by a type:
+// the words are slices that C lends, and a type would be made of them anew at each call.
 pub fn count_below(map: &[u64], p: usize) -> usize
     requires { length map.now ≤ table_entries }
     ensures { result ≡ below (marked map.now) p }
 {
     let b = p / BLOCK_WORDS;
     if map.len() <= b {
-        return count_words(map, map.len());
+        return count_words(map);
     }
-    count_words(map, b) + ones_below(map[b], (p % BLOCK_WORDS) as u32) as usize
+    count_words(&map[..b]) + ones_below(map[b], (p % BLOCK_WORDS) as u32) as usize
 }
 
-// The lowest marked place from p on; the end of the bitmap where there is none.
-pub fn next_set(map: &[u64], p: usize) -> usize
+// The lowest marked place from p on.
+pub fn next_set(map: &[u64], p: usize) -> Option<usize>
     requires { length map.now ≤ table_entries }
     ensures { result ≡ next_set map.now p }
 {
-    let end = BLOCK_WORDS * map.len();
-    let mut at = p;
-    while at < end {
-        let rest = map[at / BLOCK_WORDS] >> (at % BLOCK_WORDS);
+    for b in p / BLOCK_WORDS..map.len() {
+        let at = p.max(BLOCK_WORDS * b);
+        let rest = map[b] >> (at % BLOCK_WORDS);
         if rest != 0 {
-            return at + u64::trailing_zeros(rest) as usize;
+            return Some(at + rest.trailing_zeros() as usize);
         }
-        at = BLOCK_WORDS * (at / BLOCK_WORDS + 1);
     }
-    end
+    None
 }
 
-// Set bit number n of a word.
+// The set bits of a word, seen as the list of those that are left, lowest first.
+#[derive(Drop)]
+pub struct SetBits(u64);
+
+impl Model for SetBits {
+    ghost Value = { List ℕ };
+
+    ghost view = { λ s. set_places s.0 };
+}
+
+// The set bits of a word, lowest first.
+pub fn set_bits(word: u64) -> SetBits
+    ensures { result ≡ set_places word }
+{
+    SetBits(word)
+}
+
+impl Iterator for SetBits {
+    type Item = usize;
+
+    ghost next_gives = { YieldsFirst (λ rest. rest) };
+
+    ghost remaining = { item_count (λ rest. rest) };
+
+    #[inline(always)]
+    fn next(&mut self) -> Option<usize> {
+        if self.0 == 0 {
+            return None;
+        }
+        let place = self.0.trailing_zeros() as usize;
+        self.0 &= self.0 - 1;
+        Some(place)
+    }
+}
+
+// Set bit number n of a word: a half of what is left of it, from 64 bits on, is passed over each time.
 pub fn select(word: u64, n: u32) -> u32
     requires { n < below (bit_set word) block_words }
     ensures { result ≡ src (bit_set word) block_words n }
@@ -86,17 +114,12 @@ pub fn select(word: u64, n: u32) -> u32
     let mut rest = word;
     let mut left = n;
     let mut at: u32 = 0;
-    let mut width = BLOCK_WORDS as u32;
-    while 1 < width {
-        let half = width / 2;
+    for half in [32, 16, 8, 4, 2, 1] {
         let low = ones_below(rest, half);
-        if left < low {
-            width = half;
-        } else {
+        if low <= left {
             left -= low;
-            rest = rest >> half;
+            rest >>= half;
             at += half;
-            width -= half;
         }
     }
     at
@@ -124,11 +147,10 @@ fn part_length(at: usize, to: usize) -> usize
     requires { at < to }
     ensures { result ≡ min (to - at) (block_words - at % block_words) }
 {
-    let room = BLOCK_WORDS - at % BLOCK_WORDS;
-    if to - at < room { to - at } else { room }
+    (to - at).min(BLOCK_WORDS - at % BLOCK_WORDS)
 }
 
-// Places from .. to - 1 marked too.
+// Places from .. to - 1 marked too, part after part: where the next begins is told by the last, so no range counts them.
 pub fn set_range(map: &mut [u64], from: usize, to: usize)
     requires { to ≤ end_of map.old }
     ensures { map.new ≡ set_range map.old from to }
@@ -145,9 +167,5 @@ pub fn set_range(map: &mut [u64], from: usize, to: usize)
 pub fn clear(map: &mut [u64])
     ensures { map.new ≡ replicate (length map.old) 0 }
 {
-    let mut i = 0;
-    while i < map.len() {
-        map[i] = 0;
-        i += 1;
-    }
+    map.fill(0);
 }

@@ -15,7 +15,7 @@ use Rattle.meaning.proofs.Bitmaps.{Fit, marked-block, marked_in, below-block}
 use Rattle.bits.proofs.BitLoop.{Left}
 use Rattle.runs.specs.Runs.{Run}
 use Rattle.runs.proofs.RunsOfBits.{below-run}
-use Rattle.blocks.specs.Cursors.{live_places, Dropped, Before}
+use Rattle.blocks.specs.Cursors.{live_places, Before}
 use Rattle.blocks.proofs.DroppedBits.{dropped-start, dropped_next, dropped_end, run_word, run-within, dropped-run}
 
 module _ (live : List ℕ) where
@@ -44,9 +44,6 @@ module _ (live : List ℕ) where
       → Seeking j (b + 1) (left - n)
   seeking_next j b left n some e h s =
       record { within = within_words j (b + 1) some (omega (arith, s.count, below_word b)); count = omega (arith, s.count, below_word b) }
-
-  pub seeking_end : (j b left rest : ℕ) → Seeking j b left → Dropped (get_or live b 0) left rest → Before live j (record { block = b; rest = rest })
-  seeking_end j b left rest s d = record { dropped = left; word = d; count = s.count }
 
   -- ## Moved on
   -- live words number j to j + k - 1 stand in a row from bit z of word b on, and past them is the cursor with what is then left of that word

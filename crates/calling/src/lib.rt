@@ -1,15 +1,20 @@
 // All store calls: one function for every call that borrows heap and slots alone, and the collect call.
 #![tactic(auto)]
 
-ghost use Rattle.std.specs.Prelude.{◌≡◌};
 ghost use Rattle.meaning.specs.Store.{answered};
-ghost use Rattle.store.specs.Contract.{mem_of, call_of, brought_of, shrunk_of, Leaves, LeavesCollected};
+ghost use Rattle.store.specs.Contract.{mem_of, call_of, brought_of, Leaves, LeavesCollected};
 
-use compactor::Collected;
-use store::{Answer, Call, Said, Store, refused};
+use refusals::Refusal;
+use store::{Answer, Call, Said, Store, told};
 
-// The call's own answer; o is an object's slot and f its field.
-pub fn answer(store: Store, heap: &mut [u32], roots: &mut [u32], call: Call) -> Answer
+// The call's own answer; o is an object's slot and f its field. An enum and no closure says which call it is: what holds of
+// every sequence of calls (`demand_three_told`) is said of a list of them.
+pub fn answer(
+    store: Store,
+    heap: &mut [u32],
+    roots: &mut [u32],
+    call: Call,
+) -> Result<Answer, Refusal>
     ensures { Leaves (mem_of heap.old roots.old store) (answered (mem_of heap.old roots.old store) (call_of call))
         result heap.new roots.new }
 {
@@ -28,17 +33,9 @@ pub fn answer(store: Store, heap: &mut [u32], roots: &mut [u32], call: Call) -> 
     }
 }
 
-// The record after an accepted collection; the count wraps on purpose.
-fn shrunk(store: Store, top: u32) -> Store
-    ensures { result ≡ shrunk_of store top }
-{
-    Store {
-        top: top,
-        calls: std::num::wrapping_add_u64(store.calls, 1),
-    }
-}
-
-// A collection. A refusal leaves the record, heap, slots and marks as found; refusal 6 alone has filled the tables.
+// A collection; its buffers stay apart, as for the bare one. A refusal leaves the heap, slots and marks as found; refusal 6 alone
+// has filled the tables.
+#[tactic(auto, using(crate::proofs::CollectLeaves::collect_leaves), unfolding(meaning::specs::Store::collects))]
 pub fn collect(
     store: Store,
     heap: &mut [u32],
@@ -47,17 +44,13 @@ pub fn collect(
     order: &[u32],
     live: &mut [u64],
     offsets: &mut [u32],
-) -> Answer
+) -> Result<Answer, Refusal>
     ensures { LeavesCollected (mem_of heap.old roots.old store)
         (brought_of marks.old order.now live.old offsets.old)
         result heap.new roots.new marks.new live.new offsets.new }
 {
-    let collected = compactor::collect(heap, store.top, roots, marks, order, live, offsets);
-    match collected {
-        Collected::Refused(number, place) => refused(store, number, place),
-        Collected::Done(top, objects, blocks) => Answer {
-            store: shrunk(store, top),
-            said: Said::Collected(top, objects, blocks),
-        },
-    }
+    let totals = compactor::collect(heap, store.top, roots, marks, order, live, offsets)?;
+    let top = totals.top;
+    let said = Said::Collected(top, totals.objects, totals.blocks);
+    Ok(told(Store { top, ..store }, said))
 }

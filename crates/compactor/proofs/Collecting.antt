@@ -25,32 +25,36 @@ use Rattle.meaning.proofs.MarkedObjects.{marked-objects}
 use Rattle.meaning.proofs.OrderJudged.{judge_keeps}
 use Rattle.blocks.specs.Cursors.{live_places}
 use Rattle.fixing.specs.Fixable.{RefersWithin}
-use Rattle.compactor.specs.declared.Collected.{Collected}
-use Rattle.compactor.specs.declared.Collected.TheVariants.{Refused}
-use Rattle.compactor.specs.declared.Prepared.TheVariants.{Ready, Misordered}
+use Rattle.std.proofs.Common.{Ok, Err}
+use Rattle.refusals.specs.Paper.{number_of, place_of as reported}
+use Rattle.refusals.specs.declared.Refusal.{Refusal}
+use Rattle.refusals.specs.declared.Refusal.TheVariants.{Sizes}
+use Rattle.compactor.specs.declared.Totals.{Totals}
 use Rattle.compactor.specs.Collects.{collected_totals, Collects}
-use Rattle.compactor.specs.Phases.{Sorted, Fit, Finishable, Finished}
-use Rattle.compactor.proofs.Preparing.{fit-sizes, fit-tables, places_cut}
+use Rattle.compactor.specs.Phases.{Sorted, References, PreparedAs, Finishable, Finished}
+use Rattle.compactor.proofs.Preparing.{Fit, fit-sizes, fit-tables, places_cut}
 
 -- ## Refused
 module _ (heap : List ℕ) (top : ℕ) (roots marks order live offsets : List ℕ) where
   pub collects_unfit : sizes_fit heap top roots marks && tables_fit heap order live offsets ≡ false
-      → Collects (collect heap top roots marks order live offsets) (Refused 1 0) heap roots marks live offsets
+      → Collects (collect heap top roots marks order live offsets) (Err Sizes) heap roots marks live offsets
   unfolding collect checked
   collects_unfit e = rw e (record { answer_is = refl; heap_is = refl; roots_are = refl; marks_are = refl; live_is = refl; offsets_are = refl })
 
-module _ {heap : List ℕ} {top : ℕ} {roots marks order live offsets refs : List ℕ} (f : Fit heap top roots marks order live offsets refs) where
-  pub collects_unsound : (live' offsets' : List ℕ) (n p : ℕ) → judged heap top roots marks (parse heap top) ≡ refused n p → live' ≡ live → offsets' ≡ offsets
-      → Collects (collect heap top roots marks order live offsets) (Refused n p) heap roots marks live' offsets'
+module _ {heap : List ℕ} {top : ℕ} {roots marks order live offsets : List ℕ} (f : Fit heap top roots marks order live offsets) where
+  unsound : (live' offsets' : List ℕ) (e : Refusal)
+      → (judged heap top roots marks (parse heap top) ≡ refused (number_of e) (reported e)) × (live' ≡ live) × (offsets' ≡ offsets)
+      → Collects (collect heap top roots marks order live offsets) (Err e) heap roots marks live' offsets'
   unfolding collect checked
-  collects_unsound live' offsets' n p e l o =
-      rw (f.sizes, f.tables, e) (record { answer_is = refl; heap_is = refl; roots_are = refl; marks_are = refl; live_is = l; offsets_are = o })
+  unsound live' offsets' e (refusal, l, o) =
+      rw (f.sizes, f.tables, refusal) (record { answer_is = refl; heap_is = refl; roots_are = refl; marks_are = refl; live_is = l; offsets_are = o })
 
-  pub collects_misordered : (live' offsets' refs' : List ℕ) (i : ℕ) → Sorted heap top roots marks order live live' offsets' refs' (Misordered i)
-      → Collects (collect heap top roots marks order live offsets) (Refused 6 i) heap roots marks live' offsets'
+  misordered : (live' offsets' : List ℕ) (e : Refusal) → Sorted heap top roots marks order live live' offsets' (Err e)
+      → Collects (collect heap top roots marks order live offsets) (Err e) heap roots marks live' offsets'
   unfolding collect checked
-  collects_misordered live' offsets' refs' i s =
-      rw (f.sizes, f.tables, s.sound, s.says.1)
+  misordered live' offsets' e s =
+      let (i, is, (rest, breaks)) = s.says in
+      rw (f.sizes, f.tables, s.sound, breaks, is)
       (record {
         answer_is = refl;
         heap_is = refl;
@@ -60,9 +64,15 @@ module _ {heap : List ℕ} {top : ℕ} {roots marks order live offsets refs : Li
         offsets_are = s.tabled.entries ∙ ap (offset_table (live_at (marked marks) s.objects)) (sym (fit-tables f).same);
       })
 
+  -- refused by 2 to 6
+  pub collects_refused : (live' offsets' refs : List ℕ) (e : Refusal) → PreparedAs heap top roots marks order live offsets live' offsets' refs (Err e)
+      → Collects (collect heap top roots marks order live offsets) (Err e) heap roots marks live' offsets'
+  collects_refused live' offsets' refs e p = ⊎_elim (unsound live' offsets' e) (λ x. misordered live' offsets' e x.0) p
+
 -- ## Accepted
-module _ {heap : List ℕ} {top : ℕ} {roots marks order live₀ offsets₀ refs₀ : List ℕ} (f : Fit heap top roots marks order live₀ offsets₀ refs₀)
-    {live offsets refs : List ℕ} {total : ℕ} (s : Sorted heap top roots marks order live₀ live offsets refs (Ready total)) where
+module _ {heap : List ℕ} {top : ℕ} {roots marks order live₀ offsets₀ : List ℕ} (f : Fit heap top roots marks order live₀ offsets₀)
+    {live offsets refs : List ℕ} {total : ℕ} (s : Sorted heap top roots marks order live₀ live offsets (Ok total))
+    (h : References heap (marked marks) s.objects refs) where
   abbrev m : ℕ → Bool
   m = marked marks
 
@@ -95,8 +105,8 @@ module _ {heap : List ℕ} {top : ℕ} {roots marks order live₀ offsets₀ ref
       (λ (h : q < block_words * n). marked-bitmap t n q h)
       (le_or_lt (block_words * n) q))
 
-  exact : Exact live offsets
-  exact = rw (s.tabled.bits, s.tabled.entries) (tables-exact t n (fit-tables f).few)
+  pub sorted_exact : Exact live offsets
+  sorted_exact = rw (s.tabled.bits, s.tabled.entries) (tables-exact t n (fit-tables f).few)
 
   -- a place with a mark has an entry in the tables
   within-tables : (p : ℕ) → m p ≡ true → p / block_words < length live
@@ -104,7 +114,7 @@ module _ {heap : List ℕ} {top : ℕ} {roots marks order live₀ offsets₀ ref
 
   refers : (q : ℕ) → marked refs q ≡ true → RefersWithin live heap q
   refers q e =
-      let (field, ref) = and_both (field_at m s.objects q) (is_ref (get_or heap q 0)) (sym (s.holds_ref q) ∙ e) in
+      let (field, ref) = and_both (field_at m s.objects q) (is_ref (get_or heap q 0)) (sym (h.holds_ref q) ∙ e) in
       let below_top = field-low heap top s.objects room is-sound.parsed m q field in
       record { in_heap = omega (arith, room); holds_ref = ref; target = within-tables (place_of (get_or heap q 0)) (is-sound.fields_marked q below_top field ref) }
 
@@ -112,13 +122,13 @@ module _ {heap : List ℕ} {top : ℕ} {roots marks order live₀ offsets₀ ref
   unfolding below
   all_live = rw (live_same, long) (ap length (places_cut t top (block_words * n) far low) ∙ sym s.says.1)
 
-  pub sorted_finishable : Finishable heap top roots marks order live offsets refs total
+  pub sorted_finishable : Finishable heap top roots marks order live refs total
   unfolding below
   sorted_finishable = record {
     slidable = record {
       room = room;
-      roots_fixable = record { exact = exact; targets = λ i h r. within-tables (place_of (get_or roots i 0)) (is-sound.roots_marked i h r) };
-      fields_fixable = record { exact = exact; covered = omega (arith, (fit-tables f).covers, long); refers = refers };
+      roots_fixable = record { targets = λ i h r. within-tables (place_of (get_or roots i 0)) (is-sound.roots_marked i h r) };
+      fields_fixable = record { covered = omega (arith, (fit-tables f).covers, long); refers = refers };
       movable = record { few = omega (arith, (fit-tables f).few, long); inside = λ p e. omega (arith, low p (ap (λ (u : ℕ → Bool). u p) (sym live_same) ∙ e), room); all = sym all_live };
       within = λ i h. rw s.says.1 ((judge_keeps (places_from t 0 top) order s.says.0).within i h);
     };
@@ -130,7 +140,7 @@ module _ {heap : List ℕ} {top : ℕ} {roots marks order live₀ offsets₀ ref
   places_same = rw (live_same, long) (places_cut t top (block_words * n) far low)
 
   refs_same : marked refs ≡ (λ q. field_at m s.objects q && is_ref (get_or heap q 0))
-  refs_same = fun_ext s.holds_ref
+  refs_same = fun_ext h.holds_ref
 
   fixed_same : (h : List ℕ) → Fixed (marked refs) (below (marked live)) heap h → Fixed (λ q. field_at m s.objects q && is_ref (get_or heap q 0)) (below t) heap h
   fixed_same h x = subst (λ (u : ℕ → Bool). Fixed u (below t) heap h) refs_same (subst (λ (u : ℕ → Bool). Fixed (marked refs) (below u) heap h) live_same x)
@@ -142,7 +152,7 @@ module _ {heap : List ℕ} {top : ℕ} {roots marks order live₀ offsets₀ ref
       (λ e. rw e)
       (true_or_false (field_at m s.objects q))
 
-  module _ {heap' roots' marks' : List ℕ} {r : Collected} (d : Finished heap top roots marks order live refs total heap' roots' marks' r) where
+  module _ {heap' roots' marks' : List ℕ} {r : Totals} (d : Finished heap top roots marks order live refs total heap' roots' marks' r) where
     slid-heap : heap' ≡ encode (slide m s.objects) ++ (replicate (top - below t top) 0 ++ drop top heap)
     slid-heap =
         let x = fixed_same d.slid.fixed_heap d.slid.fixed in
@@ -155,13 +165,13 @@ module _ {heap : List ℕ} {top : ℕ} {roots marks order live₀ offsets₀ ref
     slid-roots =
         d.roots_fixed ∙ ap (λ (u : ℕ → Bool). map (fix_word (below u)) roots) live_same ∙ roots_fixed heap top roots marks s.objects room is-sound
 
-    totals : collected_totals r ≡ gives (record { top = below t top; objects = length (kept m 0 s.objects); blocks = blocks_of (below t top) })
+    totals : collected_totals (Ok r) ≡ gives (record { top = below t top; objects = length (kept m 0 s.objects); blocks = blocks_of (below t top) })
     totals =
-        ap collected_totals d.answered
+        ap (λ (x : Totals). collected_totals (Ok x)) d.answered
         ∙ ap₂ (λ (l o : ℕ). gives (record { top = l; objects = o; blocks = blocks_of l })) s.says.1
         (marked-objects heap top marks s.objects room is-sound.parsed is-sound.at_headers (fit-sizes f).covers)
 
-    pub collects-done : Collects (collect heap top roots marks order live₀ offsets₀) r heap' roots' marks' live offsets
+    pub collects-done : Collects (collect heap top roots marks order live₀ offsets₀) (Ok r) heap' roots' marks' live offsets
     unfolding collect checked
     collects-done =
         rw (f.sizes, f.tables, s.sound, s.says.0)

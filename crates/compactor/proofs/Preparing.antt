@@ -1,31 +1,28 @@
 -- A heap that is found sound, with its tables filled and its order judged, is prepared. Assumes nothing.
 use mathlib.Core.Path.{◌≡◌, sym, ap, ◌∙◌, subst, fun_ext}
 use mathlib.Core.Bool.{Bool, true, false}
-use mathlib.Core.Logic.{⊎_elim}
+use mathlib.Core.Logic.{⊎_elim, inr}
 use mathlib.Core.List.{List, append-nil}
 use Prim.Native.Nat.{ℕ, ◌+◌, ◌-◌, ◌*◌, ◌≤◌, ◌<◌}
 use native.Mathlib.Omega.{arith}
 use lib.Dec.{leb, eqb}
-use lib.ListN.{length, replicate}
+use lib.ListN.{length}
 use borrow.Author.Tests.{leb-true, eqb-true}
 use Rattle.meaning.specs.Limits.{block_words, table_entries, order_entries, blocks_of}
 use Rattle.meaning.specs.Places.{places_from, marked, bitmap}
 use Rattle.meaning.specs.Slide.{live_at}
-use Rattle.meaning.specs.Collect.{checked, offset_table}
+use Rattle.meaning.specs.Collect.{sizes_fit, tables_fit, checked, offset_table}
 use Rattle.meaning.proofs.Deciding.{and_both, true_or_false}
 use Rattle.meaning.proofs.Counting.{places_split, places_none, below_flat}
-use Rattle.meaning.proofs.Bitmaps.{marked_zeros}
 use Rattle.meaning.proofs.Bridge.{live-low}
-use Rattle.meaning.proofs.OrderJudged.{judge-refused}
 use Rattle.meaning.proofs.ChecksPassed.{checked-sound}
-use Rattle.walk.specs.Survey.{Blank}
 use Rattle.objects.specs.Examined.{Examined}
-use Rattle.objects.specs.declared.Judged.{Judged}
-use Rattle.objects.specs.declared.Judged.TheVariants.{Sound}
+use Rattle.std.specs.Bool.{⊤}
+use Rattle.std.proofs.Common.{Result, Ok, Err}
+use Rattle.refusals.specs.declared.Refusal.{Refusal}
+use Rattle.walk.specs.declared.Survey.{Survey}
 use Rattle.objects.proofs.Sizes.{Sizes, sizes}
-use Rattle.compactor.specs.declared.Prepared.{Prepared}
-use Rattle.compactor.specs.declared.Prepared.TheVariants.{Ready, Unfit, Misordered}
-use Rattle.compactor.specs.Phases.{OrderSays, Settleable, Settled, Sorted, PreparedAs, Fit}
+use Rattle.compactor.specs.Phases.{OrderSays, Settleable, Settled, Sorted, PreparedAs}
 
 -- the sizes of tables that fit
 pub record TableSizes (heap live offsets : List ℕ) : Type 0 where
@@ -33,7 +30,16 @@ pub record TableSizes (heap live offsets : List ℕ) : Type 0 where
   pub same : length offsets ≡ length live
   pub covers : length heap ≤ block_words * length live
 
-module _ {heap : List ℕ} {top : ℕ} {roots marks order live offsets refs : List ℕ} (f : Fit heap top roots marks order live offsets refs) where
+-- sizes that fit, of all that the collection takes
+pub record Fit (heap : List ℕ) (top : ℕ) (roots marks order live offsets : List ℕ) : Type 0 where
+  pub sizes : sizes_fit heap top roots marks ≡ true
+  pub tables : tables_fit heap order live offsets ≡ true
+
+pub fitting : {heap : List ℕ} {top : ℕ} {roots marks order live offsets : List ℕ} → sizes_fit heap top roots marks ≡ true
+    → tables_fit heap order live offsets ≡ true → Fit heap top roots marks order live offsets
+fitting s t = record { sizes = s; tables = t }
+
+module _ {heap : List ℕ} {top : ℕ} {roots marks order live offsets : List ℕ} (f : Fit heap top roots marks order live offsets) where
   pub fit-sizes : Sizes heap top roots marks
   fit-sizes = sizes heap top roots marks f.sizes
 
@@ -46,15 +52,8 @@ module _ {heap : List ℕ} {top : ℕ} {roots marks order live offsets refs : Li
       let s = fit-sizes in
       record { few = omega arith; same = omega arith; covers = omega arith }
 
-  -- nothing is noted at first
-  pub fit-blank : Blank heap top (replicate table_entries 0) (replicate table_entries 0) refs
-  fit-blank = record {
-    room = fit-sizes.room;
-    small = fit-sizes.small;
-    no_header = marked_zeros table_entries;
-    no_word = marked_zeros table_entries;
-    no_field = f.blank;
-  }
+  pub fit-order : length order ≤ order_entries
+  fit-order = leb-true (length order) order_entries (and_both (leb (length order) order_entries) _ f.tables).0
 
 -- the live places, from any end at the top or above
 module _ (t : ℕ → Bool) (top end : ℕ) (far : top ≤ end) (low : (p : ℕ) → t p ≡ true → p < top) where
@@ -66,32 +65,37 @@ module _ (t : ℕ → Bool) (top end : ℕ) (far : top ≤ end) (low : (p : ℕ)
       ap (places_from t 0) (let e : end ≡ top + (end - top) = omega arith in e) ∙ places_split t 0 top (end - top)
       ∙ rw (places_none t (0 + top) (end - top) (λ k h. none_past (0 + top + k) (omega arith))) (append-nil (places_from t 0 top))
 
-  says_cut : (order : List ℕ) (r : Prepared) → OrderSays t end order r → OrderSays t top order r
-  says_cut order (Ready total) (accepted, all) = (rw (← places_cut) accepted, all ∙ below_flat t top end far (λ r h l. none_past r h))
-  says_cut order (Misordered i) (rest, e) = (rest, rw (← places_cut) e)
-  says_cut order (Unfit n p) e = e
+  says_cut : (order : List ℕ) (r : Result ℕ Refusal) → OrderSays t end order r → OrderSays t top order r
+  says_cut order (Ok total) (accepted, all) = (rw (← places_cut) accepted, all ∙ below_flat t top end far (λ r h l. none_past r h))
+  says_cut order (Err e) (i, is, (rest, breaks)) = (i, is, (rest, rw (← places_cut) breaks))
 
-module _ {heap : List ℕ} {top : ℕ} {roots marks order live₀ offsets₀ refs₀ : List ℕ} (f : Fit heap top roots marks order live₀ offsets₀ refs₀)
-    (headers words refs : List ℕ) (x : Examined heap top roots marks headers words refs Sound) where
+module _ {heap : List ℕ} {top : ℕ} {roots marks order live₀ offsets₀ : List ℕ} (f : Fit heap top roots marks order live₀ offsets₀)
+    (survey : Survey) (x : Examined heap top roots marks survey (Ok tt)) where
   abbrev m : ℕ → Bool
   m = marked marks
 
   abbrev t : ℕ → Bool
   t = live_at m x.0
 
-  same : marked words ≡ t
+  same : marked survey.words ≡ t
   same = fun_ext x.2.is_live
 
   low : (p : ℕ) → t p ≡ true → p < top
   unfolding checked
   low p e = live-low heap top x.0 (fit-sizes f).room (checked-sound heap top roots marks x.0 true x.1).1.parsed m p e
 
-  pub sound_settleable : Settleable words live₀ offsets₀
+  pub sound_settleable : Settleable survey.words order live₀ offsets₀
   sound_settleable =
       let s = fit-tables f in
-      record { few = s.few; same = s.same; inside = λ p e. omega (arith, low p (sym (x.2.is_live p) ∙ e), s.covers, (fit-sizes f).room) }
+      record {
+        few = s.few;
+        same = s.same;
+        inside = λ p e. omega (arith, low p (sym (x.2.is_live p) ∙ e), s.covers, (fit-sizes f).room);
+        short = fit-order f;
+      }
 
-  sorted : (live offsets : List ℕ) (r : Prepared) → Settled words (length live₀) order live offsets r → Sorted heap top roots marks order live₀ live offsets refs r
+  sorted : (live offsets : List ℕ) (r : Result ℕ Refusal) → Settled survey.words (length live₀) order live offsets r
+      → Sorted heap top roots marks order live₀ live offsets r
   sorted live offsets r s = record {
     objects = x.0;
     sound = x.1;
@@ -99,29 +103,21 @@ module _ {heap : List ℕ} {top : ℕ} {roots marks order live₀ offsets₀ ref
       bits = s.tabled.bits ∙ ap (λ (u : ℕ → Bool). bitmap u (length live₀)) same;
       entries = s.tabled.entries ∙ ap (λ (u : ℕ → Bool). offset_table u (length live₀)) same;
     };
-    holds_ref = x.2.holds_ref;
     says = says_cut t top (block_words * length live₀) (omega (arith, (fit-tables f).covers, (fit-sizes f).room)) low order r (rw same at s.says);
   }
 
-  pub sound_prepared : (live offsets : List ℕ) (r : Prepared) → Settled words (length live₀) order live offsets r
-      → PreparedAs heap top roots marks order live₀ offsets₀ live offsets refs r
-  sound_prepared live offsets (Ready total) s = sorted live offsets (Ready total) s
-  sound_prepared live offsets (Misordered i) s = sorted live offsets (Misordered i) s
-  sound_prepared live offsets (Unfit n p) s = absurd s.says
+  -- the order judged, with the references of the survey
+  pub prepared : (live offsets : List ℕ) (r : Result ℕ Refusal) → Settled survey.words (length live₀) order live offsets r
+      → PreparedAs heap top roots marks order live₀ offsets₀ live offsets survey.fields r
+  unfolding sorted
+  prepared live offsets (Err e) s = inr (sorted live offsets (Err e) s, record { holds_ref = x.2.holds_ref })
+  prepared live offsets (Ok total) s = (sorted live offsets (Ok total) s, record { holds_ref = x.2.holds_ref })
 
 -- what was said, once it is known what
-pub examined_as : (heap : List ℕ) (top : ℕ) (roots marks headers words refs : List ℕ) (r s : Judged) → r ≡ s
-    → Examined heap top roots marks headers words refs r → Examined heap top roots marks headers words refs s
-examined_as heap top roots marks headers words refs r s e x = subst (Examined heap top roots marks headers words refs) e x
+pub examined_as : (heap : List ℕ) (top : ℕ) (roots marks : List ℕ) (survey : Survey) (r s : Result ⊤ Refusal) → r ≡ s
+    → Examined heap top roots marks survey r → Examined heap top roots marks survey s
+examined_as heap top roots marks survey r s e x = subst (Examined heap top roots marks survey) e x
 
-pub prepared_as : (heap : List ℕ) (top : ℕ) (roots marks order live₀ offsets₀ live offsets refs : List ℕ) (r s : Prepared) → r ≡ s
+pub prepared_as : (heap : List ℕ) (top : ℕ) (roots marks order live₀ offsets₀ live offsets refs : List ℕ) (r s : Result ℕ Refusal) → r ≡ s
     → PreparedAs heap top roots marks order live₀ offsets₀ live offsets refs r → PreparedAs heap top roots marks order live₀ offsets₀ live offsets refs s
 prepared_as heap top roots marks order live₀ offsets₀ live offsets refs r s e x = subst (PreparedAs heap top roots marks order live₀ offsets₀ live offsets refs) e x
-
--- an order breaks within it or at its end, so the position is small
-pub misordered_low : {heap : List ℕ} {top : ℕ} {roots marks order live₀ offsets₀ refs₀ live offsets refs : List ℕ} {i : ℕ}
-    → Fit heap top roots marks order live₀ offsets₀ refs₀ → Sorted heap top roots marks order live₀ live offsets refs (Misordered i) → i ≤ order_entries
-misordered_low {order = order} f s =
-    let (few, rest) = and_both (leb (length order) order_entries) _ f.tables in
-    let b = judge-refused _ order _ s.says.0 s.says.1 in
-    ⊎_elim (λ (low, bad). omega (arith, leb-true (length order) order_entries few)) (λ (fine, other, e). omega (arith, leb-true (length order) order_entries few)) b.here

@@ -8,34 +8,35 @@ use lib.ListN.{get_or}
 use contract.Lifetimes.{Lfts}
 use denote.Ref.{Bor}
 use denote.MutBor.{MutBor}
-use Rattle.meaning.specs.Answers.{Answer, gives, refused}
+use Rattle.meaning.specs.Answers.{gives}
 use Rattle.meaning.specs.Places.{below, marked}
 use Rattle.meaning.specs.Objects.{Object, all, parse}
 use Rattle.meaning.specs.Slide.{slide, live_at}
 use Rattle.meaning.specs.Words.{fixed}
-use Rattle.meaning.specs.Collect.{Totals, After, collect as on_paper}
+use Rattle.meaning.specs.Collect.{Totals as PaperTotals, After, collect as on_paper}
 use Rattle.meaning.specs.Lookups.{at, old_to_new, new_to_old}
 use Rattle.meaning.proofs.CollectionSays.{orders_agree}
 use Rattle.meaning.proofs.CollectionLeaves.{collect_parses, live-word-moved, new-place-told, old-place-told}
-use Rattle.compactor.specs.Collects.{collected_totals, Collects}
-use Rattle.compactor.specs.declared.Collected.{Collected}
-use Rattle.compactor.specs.declared.Collected.TheVariants.{Done, Refused}
+use Rattle.std.proofs.Common.{Result, Ok}
+use Rattle.refusals.specs.declared.Refusal.{Refusal}
+use Rattle.refusals.proofs.OneToOne.{answer_one}
+use Rattle.compactor.specs.Collects.{totals_of, collected_totals, Collects}
+use Rattle.compactor.specs.declared.Totals.{Totals}
 use Rattle.compactor.proofs.collect.Reads as collect
 
 -- ## One to one
-abbrev totals_collected : Answer Totals → Collected
-totals_collected (gives t) = Done t.top t.objects t.blocks
-totals_collected (refused n p) = Refused n p
+abbrev totals_at : PaperTotals → Totals
+totals_at t = record { top = t.top; objects = t.objects; blocks = t.blocks }
 
-collected_back : (r : Collected) → totals_collected (collected_totals r) ≡ r
-collected_back (Done l o b) = refl
-collected_back (Refused n p) = refl
+pub collected_totals_one : (r s : Result Totals Refusal) → collected_totals r ≡ collected_totals s → r ≡ s
+collected_totals_one = answer_one totals_of totals_at (λ t. refl)
 
-pub collected_totals_one : (r s : Collected) → collected_totals r ≡ collected_totals s → r ≡ s
-collected_totals_one r s e = cc (ap totals_collected e, collected_back r, collected_back s)
+-- accepted, with these numbers
+abbrev pub accepted : ℕ → ℕ → ℕ → Result Totals Refusal
+accepted top objects blocks = Ok (record { top = top; objects = objects; blocks = blocks })
 
 -- ## Two ends
-pub record Same (r s : Collected) (h h' t t' m m' l l' o o' : List ℕ) : Type 0 where
+pub record Same (r s : Result Totals Refusal) (h h' t t' m m' l l' o o' : List ℕ) : Type 0 where
   pub answers : r ≡ s
   pub heaps : h ≡ h'
   pub roots_same : t ≡ t'
@@ -44,7 +45,7 @@ pub record Same (r s : Collected) (h h' t t' m m' l l' o o' : List ℕ) : Type 0
   pub offsets_same : o ≡ o'
 
 -- the same collection on paper, the same answer and buffers
-same_ends : (c d : After) (r s : Collected) (h h' t t' m m' l l' o o' : List ℕ) → c ≡ d → Collects c r h t m l o → Collects d s h' t' m' l' o'
+same_ends : (c d : After) (r s : Result Totals Refusal) (h h' t t' m m' l l' o o' : List ℕ) → c ≡ d → Collects c r h t m l o → Collects d s h' t' m' l' o'
     → Same r s h h' t t' m m' l l' o o'
 same_ends c d r s h h' t t' m m' l l' o o' e p q = record {
   answers = collected_totals_one r s (p.answer_is ∙ ap (λ (a : After). a.answer) e ∙ sym q.answer_is);
@@ -57,26 +58,26 @@ same_ends c d r s h h' t t' m m' l l' o o' e p q = record {
 
 module _ (κs : Lfts 6) (heap : MutBor (List ℕ)) (top : ℕ) (roots marks live offsets : MutBor (List ℕ)) where
   -- the call with an order ends with answer r, and the buffers hold h, t, m, l and o
-  abbrev pub Collect : Bor (List ℕ) → Collected → MutBor (List ℕ) → MutBor (List ℕ) → MutBor (List ℕ) → MutBor (List ℕ) → MutBor (List ℕ) → Type 0
+  abbrev pub Collect : Bor (List ℕ) → Result Totals Refusal → MutBor (List ℕ) → MutBor (List ℕ) → MutBor (List ℕ) → MutBor (List ℕ) → MutBor (List ℕ) → Type 0
   Collect order r h t m l o =
       collect.Post κs (heap, (top, (roots, (marks, (order, (live, (offsets, tt))))))) r (h, (top, (t, (m, (order, (l, (o, tt)))))))
 
   -- two ends of one call are the same
-  pub collect_settled : (order : Bor (List ℕ)) (r s : Collected) (h h' t t' m m' l l' o o' : MutBor (List ℕ))
+  pub collect_settled : (order : Bor (List ℕ)) (r s : Result Totals Refusal) (h h' t t' m m' l l' o o' : MutBor (List ℕ))
       → Collect order r h t m l o → Collect order s h' t' m' l' o'
       → Same r s h.now h'.now t.now t'.now m.now m'.now l.now l'.now o.now o'.now
   collect_settled order r s h h' t t' m m' l l' o o' p q = same_ends _ _ r s _ _ _ _ _ _ _ _ _ _ refl p q
 
   -- and so are the ends of two calls whose orders are accepted
   pub orders_settled : (order order' : Bor (List ℕ)) (L n b L' n' b' : ℕ) (h h' t t' m m' l l' o o' : MutBor (List ℕ))
-      → Collect order (Done L n b) h t m l o → Collect order' (Done L' n' b') h' t' m' l' o'
-      → Same (Done L n b) (Done L' n' b') h.now h'.now t.now t'.now m.now m'.now l.now l'.now o.now o'.now
+      → Collect order (accepted L n b) h t m l o → Collect order' (accepted L' n' b') h' t' m' l' o'
+      → Same (accepted L n b) (accepted L' n' b') h.now h'.now t.now t'.now m.now m'.now l.now l'.now o.now o'.now
   orders_settled order order' L n b L' n' b' h h' t t' m m' l l' o o' p q =
-      same_ends _ _ (Done L n b) (Done L' n' b') _ _ _ _ _ _ _ _ _ _
+      same_ends _ _ (accepted L n b) (accepted L' n' b') _ _ _ _ _ _ _ _ _ _
       (orders_agree heap.now top roots.now marks.now live.now offsets.now order.now order'.now _ _ (sym p.answer_is) (sym q.answer_is)) p q
 
   -- ## After a success, where the heap parsed to os
-  module _ (order : Bor (List ℕ)) (L n b : ℕ) (h t m l o : MutBor (List ℕ)) (end : Collect order (Done L n b) h t m l o)
+  module _ (order : Bor (List ℕ)) (L n b : ℕ) (h t m l o : MutBor (List ℕ)) (end : Collect order (accepted L n b) h t m l o)
       (os : List Object) (parsed : parse heap.now top ≡ all os) where
     done : (on_paper heap.now top roots.now marks.now order.now live.now offsets.now).answer ≡ gives (record { top = L; objects = n; blocks = b })
     done = sym end.answer_is

@@ -1,103 +1,96 @@
 // The whole collection: what is refused, then references fixed, live words moved by blocks, and the rest cleared.
 #![tactic(auto)]
 
-ghost use Rattle.std.specs.Prelude.{◌≡◌, map, ◌≤◌, length};
-ghost use Rattle.meaning.specs.Limits.{heap_words};
+ghost use Rattle.std.specs.Prelude.{◌≡◌, true, map, length};
 ghost use Rattle.meaning.specs.Places.{below, marked};
 ghost use Rattle.meaning.specs.Slide.{fix_word};
 ghost use Rattle.meaning.specs.Collect.{tables_fit, collect as collect_of};
 ghost use Rattle.compactor.specs.Collects.{Collects};
-ghost use Rattle.compactor.specs.Phases.{Settleable, Settled, PreparedAs, Fit, Slidable, Slid, Finishable, Finished};
+ghost use Rattle.compactor.specs.Phases.{Settleable, Settled, PreparedAs, Slidable, Slid, Finishable, Finished};
 
-use limits::{BLOCK_WORDS, ORDER_ENTRIES, TABLE_ENTRIES};
-use objects::Judged;
-use orders::Verdict;
+use limits::{BLOCK_WORDS, ORDER_ENTRIES, TABLE_ENTRIES, blocks_of};
+use objects::Given;
+use refusals::Refusal;
+use tables::Tables;
+use walk::Survey;
 
-// What preparing ends with: so many live words ready to be moved, or a refusal by 2 to 5, or by 6.
+// What goes from preparing on to sliding: the references of the heap, and how many live words there are. That the heap is sound and
+// the order keeps the dependences is asked where it is used (`Slidable`).
 #[derive(Clone, Copy)]
-pub enum Prepared {
-    Ready(usize),
-    Unfit(u32, u32),
-    Misordered(usize),
+pub struct Ready<'a> {
+    pub refs: &'a [u64; TABLE_ENTRIES],
+    pub total: usize,
 }
 
-// What the collection answers: the new top, the number of marked objects and the target blocks, or a refusal's number and place.
-#[derive(Clone, Copy)]
-pub enum Collected {
-    Done(u32, u32, u32),
-    Refused(u32, u32),
+// What the collection answers: the new top, the number of marked objects and the target blocks.
+#[derive(Clone, Copy, Debug, PartialEq, Eq)]
+pub struct Totals {
+    pub top: u32,
+    pub objects: u32,
+    pub blocks: u32,
 }
 
 // Refusal 1, of what only the collection takes: whether the order and the tables fit.
 fn tables_fit(heap: &[u32], order: &[u32], live: &[u64], offsets: &[u32]) -> bool
-    requires { length heap.now ≤ heap_words }
     ensures { result ≡ tables_fit heap.now order.now live.now offsets.now }
 {
-    let blocks = (heap.len() + (BLOCK_WORDS - 1)) / BLOCK_WORDS;
-    (order.len() <= ORDER_ENTRIES) & ((live.len() == blocks) & (offsets.len() == blocks))
+    let blocks = blocks_of(heap.len());
+    order.len() <= ORDER_ENTRIES && live.len() == blocks && offsets.len() == blocks
 }
 
-// The tables filled from the bitmap of live words, and the order judged.
+// The tables filled from the bitmap of live words, and the order judged; the answer is the number of live words.
 fn settle(
     order: &[u32],
     words: &[u64; TABLE_ENTRIES],
     live: &mut [u64],
     offsets: &mut [u32],
-) -> Prepared
-    requires { Settleable words.now live.old offsets.old }
+) -> Result<usize, Refusal>
+    requires { Settleable words.now order.now live.old offsets.old }
     ensures { Settled words.now (length live.old) order.now live.new offsets.new result }
 {
     let total = tables::fill(words, live, offsets);
-    let verdict = orders::judge(order, offsets, total);
-    match verdict {
-        Verdict::Keeps => Prepared::Ready(total),
-        Verdict::Breaks(i) => Prepared::Misordered(i),
+    match orders::judge(order, offsets, total) {
+        Some(position) => Err(Refusal::OrderBreaks(position as u32)),
+        None => Ok(total),
     }
 }
 
-// Checks 2 to 5; past them the tables are filled and the order is judged. The references of a sound heap are left in `refs`.
+// Checks 2 to 5; past them the tables are filled and the order is judged; the answer is the number of live words. The references
+// of a sound heap are left in the survey.
 pub fn prepare(
-    heap: &[u32],
-    top: usize,
-    roots: &[u32],
-    marks: &[u64],
+    given: Given,
     order: &[u32],
     live: &mut [u64],
     offsets: &mut [u32],
-    refs: &mut [u64; TABLE_ENTRIES],
-) -> Prepared
-    requires { Fit heap.now top roots.now marks.now order.now live.old offsets.old refs.old }
-    ensures { PreparedAs heap.now top roots.now marks.now order.now live.old offsets.old
-        live.new offsets.new refs.new result }
+    survey: &mut Survey,
+) -> Result<usize, Refusal>
+    requires { tables_fit given.heap.now order.now live.old offsets.old ≡ true }
+    ensures { PreparedAs given.entry.heap.now given.entry.top given.entry.roots.now given.entry.marks.now order.now
+        live.old offsets.old live.new offsets.new survey.new.fields result }
 {
-    let mut headers = [0u64; TABLE_ENTRIES];
-    let mut words = [0u64; TABLE_ENTRIES];
-    let judged = objects::examine(heap, top, roots, marks, &mut headers, &mut words, refs);
-    match judged {
-        Judged::Unsound(number, place) => Prepared::Unfit(number, place),
-        Judged::Sound => settle(order, &words, live, offsets),
-    }
+    *survey = Survey::blank();
+    given.examine(survey)?;
+    settle(order, &survey.words, live, offsets)
 }
 
-// References fixed first, then the live words moved by blocks in the order given, then the tail zeroed.
+// Its buffers stay apart, as those of `collect`. References fixed first, then the live words moved by blocks in the order given,
+// then the tail zeroed.
 pub fn slide(
     heap: &mut [u32],
     top: usize,
     roots: &mut [u32],
     order: &[u32],
-    live: &[u64],
-    offsets: &[u32],
-    refs: &[u64; TABLE_ENTRIES],
-    total: usize,
+    tables: Tables,
+    ready: Ready,
 )
-    requires { Slidable heap.old top roots.old order.now live.now offsets.now refs.now total }
-    ensures { Slid heap.old top order.now live.now refs.now total heap.new
-        × (roots.new ≡ map (fix_word (below (marked live.now))) roots.old) }
+    requires { Slidable heap.old top roots.old order.now tables.live.now ready.refs.now ready.total }
+    ensures { Slid heap.old top order.now tables.entry.live.now ready.entry.refs.now ready.entry.total heap.new
+        × (roots.new ≡ map (fix_word (below (marked tables.entry.live.now))) roots.old) }
 {
-    fixing::fix_roots(roots, live, offsets);
-    fixing::fix_fields(heap, refs, live, offsets);
-    blocks::move_blocks(heap, live, total, order);
-    fixing::zero_tail(heap, total, top);
+    fixing::fix_roots(roots, tables);
+    fixing::fix_fields(heap, ready.refs, tables);
+    blocks::move_blocks(heap, tables.live, ready.total, order);
+    fixing::zero_tail(heap, ready.total, top);
 }
 
 // The last phase: the heap slid, the marks cleared, and the numbers answered.
@@ -107,22 +100,25 @@ pub fn finish(
     roots: &mut [u32],
     marks: &mut [u64],
     order: &[u32],
-    live: &[u64],
-    offsets: &[u32],
-    refs: &[u64; TABLE_ENTRIES],
-    total: usize,
-) -> Collected
-    requires { Finishable heap.old top roots.old marks.old order.now live.now offsets.now refs.now total }
-    ensures { Finished heap.old top roots.old marks.old order.now live.now refs.now total
+    tables: Tables,
+    ready: Ready,
+) -> Totals
+    requires { Finishable heap.old top roots.old marks.old order.now tables.live.now ready.refs.now ready.total }
+    ensures { Finished heap.old top roots.old marks.old order.now tables.entry.live.now ready.entry.refs.now ready.entry.total
         heap.new roots.new marks.new result }
 {
     let objects = bits::count_below(marks, BLOCK_WORDS * marks.len());
-    slide(heap, top, roots, order, live, offsets, refs, total);
+    slide(heap, top, roots, order, tables, ready);
     bits::clear(marks);
-    Collected::Done(total as u32, objects as u32, orders::targets(total) as u32)
+    Totals {
+        top: ready.total as u32,
+        objects: objects as u32,
+        blocks: orders::targets(ready.total) as u32,
+    }
 }
 
-// The collection. Refusals 1 to 5 leave every buffer as found; refusal 6 leaves all but the tables, which are filled.
+// The collection. Its buffers stay apart, since each phase borrows others of them, to read or to change. Refusals 1 to 5 leave every
+// buffer as found; refusal 6 leaves all but the tables, which are filled.
 pub fn collect(
     heap: &mut [u32],
     top: u32,
@@ -131,24 +127,21 @@ pub fn collect(
     order: &[u32],
     live: &mut [u64],
     offsets: &mut [u32],
-) -> Collected
+) -> Result<Totals, Refusal>
     ensures { Collects (collect_of heap.old top roots.old marks.old order.now live.old offsets.old)
         result heap.new roots.new marks.new live.new offsets.new }
 {
     let end = top as usize;
-    if !objects::sizes_fit(heap, end, roots, marks) {
-        return Collected::Refused(1, 0);
-    }
+    let given = Given::of(heap, end, roots, marks)?;
     if !tables_fit(heap, order, live, offsets) {
-        return Collected::Refused(1, 0);
+        return Err(Refusal::Sizes);
     }
-    let mut refs = [0u64; TABLE_ENTRIES];
-    let prepared = prepare(heap, end, roots, marks, order, live, offsets, &mut refs);
-    match prepared {
-        Prepared::Unfit(number, place) => Collected::Refused(number, place),
-        Prepared::Misordered(position) => Collected::Refused(6, position as u32),
-        Prepared::Ready(total) => finish(
-            heap, end, roots, marks, order, live, offsets, &refs, total,
-        ),
-    }
+    let mut survey = Survey::blank();
+    let total = prepare(given, order, live, offsets, &mut survey)?;
+    let tables = Tables { live, offsets };
+    let ready = Ready {
+        refs: &survey.fields,
+        total,
+    };
+    Ok(finish(heap, end, roots, marks, order, tables, ready))
 }

@@ -1,3 +1,3 @@
 -- What follows from the definitions, in files named after what they say.
 pub mod Finding
-pub mod Asking
+pub mod Shown

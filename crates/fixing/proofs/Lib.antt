@@ -1,4 +1,2 @@
 -- Laws that the proofs of the functions use.
-pub mod RewrittenInPlace
-pub mod RefsSentOn
-pub mod TailZeroed
+pub mod SentOn

@@ -1,4 +1,5 @@
-// The store calls, for C. Each takes the record, heap and roots that C keeps, and then the numbers of the call.
+// The store calls, for C. Each takes the record, heap and roots that C keeps, and then the numbers of the call. They are a function
+// each, and lend each buffer by itself, since that is what C calls.
 ghost use Rattle.meaning.specs.Sequences.{call};
 ghost use Rattle.meaning.specs.Calls.{put_int, put_nil, copy, new_record, new_raw, read_field, write_field, read_raw, write_raw, ask, same};
 ghost use Rattle.store.specs.Contract.{brought_of};

@@ -1,5 +1,6 @@
 // The C interface. Every function answers 0 where accepted, else the refusal's number + 256 * the place reported; values go
 // to the four words `out`, which stay as found on a refusal. None has a `requires`: C cannot be asked for one.
+// Each lends every buffer by itself, since that is what C calls.
 #![tactic(auto)]
 
 ghost use Rattle.meaning.specs.Collect.{check, collect};
@@ -8,6 +9,7 @@ ghost use Rattle.telling.specs.Out.{Says, SaysCollected, count_words, found_word
 
 pub mod calls;
 
+use telling::say;
 use words::Place;
 
 #[unsafe(no_mangle)]
@@ -20,7 +22,7 @@ pub extern "C" fn hasurimba_check(
 ) -> u64
     ensures { Says count_words (check heap.now top roots.now marks.now) out.old result out.new }
 {
-    telling::say_checked(objects::check(heap, top, roots, marks), out)
+    say(objects::check(heap, top, roots, marks), out)
 }
 
 #[unsafe(no_mangle)]
@@ -37,7 +39,7 @@ pub extern "C" fn hasurimba_collect(
     ensures { SaysCollected (collect heap.old top roots.old marks.old order.now live.old offsets.old)
         out.old result heap.new roots.new marks.new live.new offsets.new out.new }
 {
-    telling::say_collected(
+    say(
         compactor::collect(heap, top, roots, marks, order, live, offsets),
         out,
     )
@@ -52,7 +54,7 @@ pub extern "C" fn hasurimba_old_to_new(
 ) -> u64
     ensures { Says found_words (old_to_new live.now offsets.now place) out.old result out.new }
 {
-    telling::say_lookup(tables::old_to_new(live, offsets, Place::at(place)), out)
+    say(tables::old_to_new(live, offsets, Place::at(place)), out)
 }
 
 #[unsafe(no_mangle)]
@@ -64,5 +66,5 @@ pub extern "C" fn hasurimba_new_to_old(
 ) -> u64
     ensures { Says found_words (new_to_old live.now offsets.now place) out.old result out.new }
 {
-    telling::say_lookup(tables::new_to_old(live, offsets, Place::at(place)), out)
+    say(tables::new_to_old(live, offsets, Place::at(place)), out)
 }

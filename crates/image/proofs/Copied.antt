@@ -1,33 +1,23 @@
--- A buffer filled entry by entry. Assumes nothing.
-use mathlib.Core.Path.{◌≡◌, ◌∙◌}
-use mathlib.Core.List.{List, map}
-use Prim.Native.Nat.{ℕ, ◌+◌, ◌<◌, ◌≤◌}
+-- A table filled entry by entry. Assumes nothing.
+use Prim.Native.Nat.{ℕ, zero, suc, ◌+◌}
+use mathlib.Core.Path.{◌≡◌, refl, ap}
+use mathlib.Core.Bool.{true}
+use mathlib.Core.List.{List, [], ◌∷◌, ◌++◌, map}
+use native.Mathlib.Numerals.{add-one}
 use native.Mathlib.Omega.{arith}
-use borrow.Author.Count.{below_none, below_more}
-use lib.ListN.{length, get_or, set, length-set}
-use lib.Seq.{get_or-set_same, get_or-set_other}
-use Rattle.meaning.specs.Places.{up_to}
-use Rattle.meaning.proofs.Bitmaps.{is_table}
+use Rattle.std.specs.List.{range_with_len}
+use Rattle.std.proofs.lemmas.List.FromFn.{map-range_with_len_more}
+use Rattle.meaning.specs.Places.{places_from, up_to}
 
--- of n entries the first i are those of f
-pub record Copying (f : ℕ → ℕ) (n : ℕ) (buffer : List ℕ) (i : ℕ) : Type 0 where
-  pub low : i ≤ n
-  pub size : length buffer ≡ n
-  pub first : (k : ℕ) → k < i → get_or buffer k 0 ≡ f k
+places_range : (a n : ℕ) → places_from (λ p. true) a n ≡ range_with_len a n
+places_range a zero = refl
+places_range a (suc n) = rw add-one (ap (λ (l : List ℕ). a ∷ l) (places_range (suc a) n))
 
-module _ (f : ℕ → ℕ) (n : ℕ) where
-  pub copying_start : (buffer : List ℕ) → length buffer ≡ n → Copying f n buffer 0
-  copying_start buffer e = record { low = omega arith; size = e; first = below_none (λ k. get_or buffer k 0 ≡ f k) }
+pub table_none : {X : Type 0} (f : ℕ → X) → map f (up_to 0) ≡ []
+unfolding up_to
+table_none f = refl
 
-  pub copying_next : (buffer : List ℕ) (i entry : ℕ) → i < length buffer → entry ≡ f i → Copying f n buffer i → Copying f n (set buffer i entry) (i + 1)
-  copying_next buffer i entry h e c = record {
-    low = omega arith;
-    size = simp length-set c.size;
-    first =
-        below_more (λ k. get_or (set buffer i entry) k 0 ≡ f k) i
-        (λ k l. get_or-set_other buffer i k entry 0 (λ q. absurd (omega arith)) ∙ c.first k l)
-        (get_or-set_same buffer i entry 0 h ∙ e);
-  }
-
-  pub copying_end : (buffer : List ℕ) (i : ℕ) → length buffer ≤ i → Copying f n buffer i → buffer ≡ map f (up_to n)
-  copying_end buffer i h c = is_table f buffer n c.size (λ k l. c.first k (omega arith))
+-- one entry more
+pub table_more : {X : Type 0} (f : ℕ → X) (n : ℕ) → map f (up_to (n + 1)) ≡ map f (up_to n) ++ (f n ∷ [])
+unfolding up_to
+table_more f n = rw (places_range 0 (n + 1), places_range 0 n) (map-range_with_len_more f 0 n n (omega arith))

@@ -1,30 +1,23 @@
--- The judge's answer on paper, and what an accepted image has.
+-- The contents on paper, and what an accepted image has.
 use Rattle.std.specs.Prelude.{ℕ, ◌+◌, ◌*◌, ◌/◌, ◌%◌, ◌≤◌, ◌≡◌, List, length}
 use Rattle.meaning.specs.Limits.{blocks_of}
-use Rattle.meaning.specs.Answers.{Answer, gives, refused}
 use Rattle.meaning.specs.Image.{most_words, most_roots, most_steps, Contents as Table}
 use Rattle.image.specs.declared.Contents.{Contents}
-use Rattle.image.specs.declared.Judged.{Judged}
-use Rattle.image.specs.declared.Judged.TheVariants.{Refused, Good}
 
 -- the ten words
 abbrev pub table_of : Contents → Table
 table_of t = record {
   kind = t.kind;
   top = t.top;
-  heap = t.heap;
-  words = t.words;
-  roots = t.roots;
-  slots = t.slots;
-  marks = t.marks;
-  halves = t.halves;
-  order = t.order;
-  steps = t.steps;
+  heap = t.heap.start;
+  words = t.heap.length;
+  roots = t.roots.start;
+  slots = t.roots.length;
+  marks = t.marks.start;
+  halves = t.marks.length;
+  order = t.order.start;
+  steps = t.order.length;
 }
-
-abbrev pub judged_of : Judged → Answer Table
-judged_of (Refused n) = refused n 0
-judged_of (Good t) = gives (table_of t)
 
 -- sizes within the program's limits, and bodies that lie one after the other in the bytes to their end
 pub record Fitting (bytes : List ℕ) (t : Table) : Type 0 where

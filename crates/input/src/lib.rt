@@ -11,15 +11,13 @@ pub fn read_full<R: Read>(reader: &mut R, buffer: &mut [u8]) -> usize
     ensures within { result ≤ length buffer.new }
     ensures bytes { Consumes (R.remaining reader.old) (R.remaining reader.new) (take result buffer.new) }
 {
+    // A loop of our own: `read_exact` gives no count where the input ends early, and `read_to_end` allocates.
     let mut done = 0;
     while done < buffer.len() {
-        let Ok(n) = reader.read(&mut buffer[done..]) else {
-            break;
-        };
-        if n == 0 {
-            break;
+        match reader.read(&mut buffer[done..]) {
+            Ok(0) | Err(_) => break,
+            Ok(n) => done += n,
         }
-        done += n;
     }
     done
 }

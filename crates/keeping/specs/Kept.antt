@@ -1,16 +1,24 @@
 -- The store as C keeps it: a record of eight words, the heap and the roots; and what a store call answers and leaves there.
-use Rattle.std.specs.Prelude.{ℕ, ◌≡◌, List, get_or, set}
+use Rattle.std.specs.Prelude.{ℕ, ◌≡◌, List, get_or, set, cond, ltb, Result, Ok, Err}
 use Rattle.meaning.specs.Answers.{Answer}
 use Rattle.meaning.specs.Calls.{Brought, Said}
 use Rattle.meaning.specs.Store.{Store, Mem}
 use Rattle.meaning.specs.Sequences.{Step, collect, step, said, after}
-use Rattle.store.specs.Contract.{said_of, collection_of}
+use Rattle.refusals.specs.Paper.{answer_of}
+use Rattle.refusals.specs.declared.Refusal.{Refusal}
+use Rattle.refusals.specs.declared.Refusal.TheVariants.{Sizes}
+use Rattle.store.specs.Contract.{paper_said, collection_of}
+use Rattle.store.specs.declared.Store.{Store as Held}
 use Rattle.store.specs.declared.Said.{Said as SaidByStore}
 use Rattle.telling.specs.Out.{code, said_words, Says}
 
 -- word 0 of the record is the top, word 1 the calls answered
 abbrev pub store_in : List ℕ → Store
 store_in kept = record { top = get_or kept 0 0; calls = get_or kept 1 0 }
+
+-- the store itself, where its top fits 32 bits
+abbrev pub held_in : List ℕ → Result Held Refusal
+held_in kept = cond (ltb (get_or kept 0 0) 4294967296) (Ok (record { top = get_or kept 0 0; calls = get_or kept 1 0 })) (Err Sizes)
 
 abbrev pub memory : List ℕ → List ℕ → List ℕ → Mem
 memory kept heap roots = record { heap = heap; slots = roots; store = store_in kept }
@@ -54,10 +62,10 @@ pub record SaysCollect (kept heap roots : List ℕ) (b : Brought) (out : List �
   pub tables : LeavesTables kept heap roots b marks' live' offsets'
 
 -- inside: the store's own answer before it is said
-pub record Gets (kept heap roots : List ℕ) (k : Step) (r : SaidByStore) (kept' heap' roots' : List ℕ) : Type 0 where
-  pub answer_is : said_of r ≡ said_by (memory kept heap roots) k
+pub record Gets (kept heap roots : List ℕ) (k : Step) (r : Result SaidByStore Refusal) (kept' heap' roots' : List ℕ) : Type 0 where
+  pub answer_is : answer_of paper_said r ≡ said_by (memory kept heap roots) k
   pub leaves : Leaves kept heap roots k kept' heap' roots'
 
-pub record GetsCollected (kept heap roots : List ℕ) (b : Brought) (r : SaidByStore) (kept' heap' roots' marks' live' offsets' : List ℕ) : Type 0 where
+pub record GetsCollected (kept heap roots : List ℕ) (b : Brought) (r : Result SaidByStore Refusal) (kept' heap' roots' marks' live' offsets' : List ℕ) : Type 0 where
   pub gets : Gets kept heap roots (collect b) r kept' heap' roots'
   pub tables : LeavesTables kept heap roots b marks' live' offsets'

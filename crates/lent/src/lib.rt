@@ -2,22 +2,29 @@
 #![tactic(auto)]
 
 ghost use Rattle.meaning.specs.Store.{answered};
-ghost use Rattle.store.specs.Contract.{mem_of, call_of, brought_of, Leaves, LeavesCollected};
+ghost use Rattle.store.specs.Contract.{mem_of, call_of, brought_of};
+ghost use Rattle.lent.specs.Lent.{Leaves, LeavesCollected};
 
+use refusals::Refusal;
 use store::{Call, Said, Store};
 
 // Every call that borrows heap and slots alone: what is said, and the record, heap and slots after.
-pub fn answer(store: &mut Store, heap: &mut [u32], roots: &mut [u32], call: Call) -> Said
+pub fn answer(
+    store: &mut Store,
+    heap: &mut [u32],
+    roots: &mut [u32],
+    call: Call,
+) -> Result<Said, Refusal>
     ensures { Leaves (mem_of heap.old roots.old store.old)
         (answered (mem_of heap.old roots.old store.old) (call_of call))
-        (record { store = store.new; said = result }) heap.new roots.new }
+        result store.new heap.new roots.new }
 {
-    let answer = calling::answer(*store, heap, roots, call);
+    let answer = calling::answer(*store, heap, roots, call)?;
     *store = answer.store;
-    answer.said
+    Ok(answer.said)
 }
 
-// The collect call, which borrows marks, order and tables besides.
+// The collect call, which borrows marks, order and tables besides, apart as for the bare collection.
 pub fn collect(
     store: &mut Store,
     heap: &mut [u32],
@@ -26,13 +33,12 @@ pub fn collect(
     order: &[u32],
     live: &mut [u64],
     offsets: &mut [u32],
-) -> Said
+) -> Result<Said, Refusal>
     ensures { LeavesCollected (mem_of heap.old roots.old store.old)
         (brought_of marks.old order.now live.old offsets.old)
-        (record { store = store.new; said = result }) heap.new roots.new
-        marks.new live.new offsets.new }
+        result store.new heap.new roots.new marks.new live.new offsets.new }
 {
-    let collected = calling::collect(*store, heap, roots, marks, order, live, offsets);
+    let collected = calling::collect(*store, heap, roots, marks, order, live, offsets)?;
     *store = collected.store;
-    collected.said
+    Ok(collected.said)
 }

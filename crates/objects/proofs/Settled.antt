@@ -1,31 +1,27 @@
 -- The promise of the check settles its answer. Assumes nothing.
-use mathlib.Core.Path.{◌≡◌, refl, sym, ap, ◌∙◌}
+use mathlib.Core.Path.{◌≡◌, refl, sym, ◌∙◌}
 use mathlib.Core.List.{List}
 use Prim.Native.Nat.{ℕ}
 use contract.Lifetimes.{Lfts}
 use denote.Ref.{Bor}
-use Rattle.meaning.specs.Answers.{Answer, gives, refused}
-use Rattle.meaning.specs.Collect.{Counts}
-use Rattle.objects.specs.Examined.{checked_counts}
-use Rattle.objects.specs.declared.Checked.{Checked}
-use Rattle.objects.specs.declared.Checked.TheVariants.{Passed, Refused}
+use Rattle.meaning.specs.Collect.{Counts as PaperCounts}
+use Rattle.objects.specs.Examined.{counts_of, checked_counts}
+use Rattle.std.proofs.Common.{Result}
+use Rattle.refusals.specs.declared.Refusal.{Refusal}
+use Rattle.refusals.proofs.OneToOne.{answer_one}
+use Rattle.objects.specs.declared.Counts.{Counts}
 use Rattle.objects.proofs.check.Reads as check
 
-abbrev counts_checked : Answer Counts → Checked
-counts_checked (gives c) = Passed c.live c.objects
-counts_checked (refused n p) = Refused n p
-
-checked_back : (r : Checked) → counts_checked (checked_counts r) ≡ r
-checked_back (Passed l o) = refl
-checked_back (Refused n p) = refl
+abbrev counts_at : PaperCounts → Counts
+counts_at c = record { live = c.live; objects = c.objects }
 
 -- one to one
-pub checked_counts_one : (r s : Checked) → checked_counts r ≡ checked_counts s → r ≡ s
-checked_counts_one r s e = cc (ap counts_checked e, checked_back r, checked_back s)
+pub checked_counts_one : (r s : Result Counts Refusal) → checked_counts r ≡ checked_counts s → r ≡ s
+checked_counts_one = answer_one counts_of counts_at (λ c. refl)
 
 module _ (κs : Lfts 3) (heap : Bor (List ℕ)) (top : ℕ) (roots marks : Bor (List ℕ)) where
-  abbrev pub Check : Checked → Type 0
+  abbrev pub Check : Result Counts Refusal → Type 0
   Check r = check.Post κs (heap, (top, (roots, (marks, tt)))) r (heap, (top, (roots, (marks, tt))))
 
-  pub check_settled : (r s : Checked) → Check r → Check s → r ≡ s
+  pub check_settled : (r s : Result Counts Refusal) → Check r → Check s → r ≡ s
   check_settled r s e f = checked_counts_one r s (e ∙ sym f)

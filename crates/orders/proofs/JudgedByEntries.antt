@@ -1,11 +1,12 @@
 -- Where each entry is the number of live places below its block, the entries judge an order as the live places do. Assumes nothing.
-use mathlib.Core.Path.{◌≡◌, refl, sym, ap, ap₂, ◌∙◌}
+use mathlib.Core.Path.{◌≡◌, sym, ap, ap₂, ◌∙◌}
 use mathlib.Core.Logic.{⊎_elim}
 use mathlib.Core.Bool.{Bool, true, false}
-use mathlib.Core.List.{List, [], ◌∷◌, ◌++◌}
-use Prim.Native.Nat.{ℕ, zero, suc, ◌+◌, ◌*◌, ◌≤◌, ◌<◌}
+use mathlib.Core.List.{List, ◌++◌}
+use Prim.Native.Nat.{ℕ, ◌+◌, ◌*◌, ◌≤◌, ◌<◌}
 use native.Mathlib.Omega.{arith}
 use lib.ListN.{length, get_or, take, get_or-eq_default}
+use Rattle.std.proofs.lemmas.List.{get_or_default}
 use Rattle.meaning.specs.Limits.{heap_words, block_words, blocks_of}
 use Rattle.meaning.specs.Places.{places_from, below}
 use Rattle.meaning.specs.Blocks.{breaks, order_breaks}
@@ -13,12 +14,6 @@ use Rattle.meaning.proofs.Deciding.{le_or_lt, true_or_false}
 use Rattle.meaning.proofs.Counting.{places_same, below-few, below_flat}
 use Rattle.meaning.proofs.TwoTargets.{offset_entry, early-two}
 use Rattle.orders.specs.Entries.{entry_at, step_breaks, length_breaks, entry_breaks, Bounded}
-
--- within a list the default does not matter
-pub get_or_any : (l : List ℕ) (k a b : ℕ) → k < length l → get_or l k a ≡ get_or l k b
-get_or_any [] k a b h = absurd (omega arith)
-get_or_any (x ∷ l) zero a b h = refl
-get_or_any (x ∷ l) (suc k) a b h = get_or_any l k a b (omega arith)
 
 -- the live places pass test t, and all are below n
 module _ (t : ℕ → Bool) (n : ℕ) (top : (p : ℕ) → t p ≡ true → p < n) (offsets : List ℕ) (total : ℕ) (long : n ≤ block_words * length offsets)
@@ -31,7 +26,7 @@ module _ (t : ℕ → Bool) (n : ℕ) (top : (p : ℕ) → t p ≡ true → p < 
       ⊎_elim
       (λ (h : length offsets ≤ b).
       get_or-eq_default offsets total h ∙ all ∙ sym (below_flat t n (block_words * b) (omega arith) (λ r g l. none_past r g)))
-      (λ (h : b < length offsets). get_or_any offsets b total 0 h ∙ exact b h)
+      (λ (h : b < length offsets). get_or_default offsets b total 0 h ∙ exact b h)
       (le_or_lt (length offsets) b)
 
   pub entries_bounded : n ≤ heap_words → Bounded offsets total

@@ -1,10 +1,8 @@
 -- The breaks of an order as the offset table alone tells them: a block's live words go to the target blocks of its entry and of the next.
-use Rattle.std.specs.Prelude.{ℕ, ◌+◌, ◌≤◌, ◌<◌, min, ◌≡◌, Bool, not, ◌||◌, cond, List, [], ◌∷◌, ◌++◌, ltb, eqb, length, get_or, take}
+use Rattle.std.specs.Prelude.{ℕ, ◌+◌, ◌≤◌, ◌<◌, min, ◌≡◌, Bool, false, not, ◌||◌, cond, List, [], ◌∷◌, ◌++◌, ltb, eqb, length, get_or, take}
 use Rattle.meaning.specs.Limits.{heap_words, blocks_of, table_entries}
 use Rattle.meaning.specs.Places.{places_from, is_in}
 use Rattle.meaning.proofs.TwoTargets.{early_by}
-use Rattle.orders.specs.declared.Verdict.{Verdict}
-use Rattle.orders.specs.declared.Verdict.TheVariants.{Keeps, Breaks}
 
 -- entry b; past the end of the table stands the total
 abbrev pub entry_at : List ℕ → ℕ → ℕ → ℕ
@@ -25,17 +23,12 @@ entry_breaks offsets total order =
     places_from (λ i. step_breaks offsets total (take i order) (get_or order i 0)) 0 (length order)
     ++ length_breaks (length order) (blocks_of total)
 
--- what is said of an order that breaks there
-abbrev pub verdict_of : List ℕ → Verdict
-verdict_of [] = Keeps
-verdict_of (i ∷ rest) = Breaks i
-
 -- no entry is above the words of a heap
 pub record Bounded (offsets : List ℕ) (total : ℕ) : Type 0 where
   pub few : total ≤ heap_words
   pub low : (b : ℕ) → entry_at offsets total b ≤ heap_words
 
--- a table with 1 for each step done
-pub record Ticks (table done : List ℕ) : Type 0 where
+-- a table that says of each step whether it is done
+pub record Ticks (table : List Bool) (done : List ℕ) : Type 0 where
   pub long : length table ≡ table_entries
-  pub ticked : (k : ℕ) → k < table_entries → eqb (get_or table k 0) 1 ≡ is_in k done
+  pub ticked : (k : ℕ) → k < table_entries → get_or table k false ≡ is_in k done

@@ -1,9 +1,8 @@
 -- What the report on an image is: a text in the buffer lent for it, and the mark bitmap afterwards.
-use Rattle.std.specs.Prelude.{ℕ, ◌+◌, ◌*◌, ◌/◌, ◌≡◌, List, ◌++◌, length, take, drop, replicate}
+use Rattle.std.specs.Prelude.{ℕ, ◌+◌, ◌*◌, ◌/◌, ◌≡◌, List, ◌++◌, length, take, drop}
 use Rattle.meaning.specs.Limits.{blocks_of}
 use Rattle.meaning.specs.Answers.{Answer, gives, refused}
-use Rattle.meaning.specs.Image.{most_words, most_roots, Contents, Image, image_of, judged_contents, collection_of}
-use Rattle.image.specs.Judging.{Fitting}
+use Rattle.meaning.specs.Image.{most_words, most_roots, Contents, image_of, judged_contents, collection_of}
 
 -- words of a mark bitmap for the largest heap
 abbrev pub most_blocks : ℕ
@@ -28,23 +27,3 @@ pub record Reports (text wanted marks before after : List ℕ) (r : ℕ) : Type 
   pub written : take r after ≡ text
   pub rest : drop r after ≡ drop r before
   pub marks_are : marks ≡ wanted
-
--- buffers of the sizes of an accepted image's bodies
-pub record Sized (bytes : List ℕ) (t : Contents) (heap roots marks order : List ℕ) : Type 0 where
-  pub fitting : Fitting bytes t
-  pub heap_long : length heap ≡ t.words
-  pub roots_long : length roots ≡ t.slots
-  pub marks_long : length marks ≡ t.halves / 2
-  pub order_long : length order ≡ t.steps
-
--- tables of n entries, all zero
-pub record Blank (n : ℕ) (live offsets : List ℕ) : Type 0 where
-  pub live_zero : live ≡ replicate n 0
-  pub offsets_zero : offsets ≡ replicate n 0
-
--- the buffers hold the image's bodies
-pub record Holds (image : Image) (heap roots marks order : List ℕ) : Type 0 where
-  pub heap_is : heap ≡ image.heap
-  pub roots_are : roots ≡ image.roots
-  pub marks_are : marks ≡ image.marks
-  pub order_is : order ≡ image.order

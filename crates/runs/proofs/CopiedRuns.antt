@@ -9,7 +9,7 @@ use lib.Seq.{get_or-set_same, get_or-set_other, ext_get_or}
 use Rattle.meaning.specs.Blocks.{moves}
 use Rattle.meaning.proofs.Deciding.{le_or_lt, eq_or_ne}
 use Rattle.meaning.proofs.BlockMoves.{moves_next}
-use Rattle.runs.specs.Runs.{copies, with_four, four_copied}
+use Rattle.runs.specs.Runs.{copies, four_at, with_four}
 
 -- ## Stored in any order, once or more
 module _ (heap₀ : List ℕ) (from to : ℕ) where
@@ -40,14 +40,15 @@ module _ (heap₀ : List ℕ) (from to : ℕ) where
   pub landed_read : (n q y : ℕ) (heap : List ℕ) → to ≤ from → n ≤ q → y ≡ from + q → Landed n heap → get_or heap y 0 ≡ get_or heap₀ y 0
   landed_read n q y heap down h e l = l.other y (λ g. omega arith)
 
-  pub landed_four : (n m q a b c d : ℕ) (heap : List ℕ) → q ≤ n → n ≤ q + 4 → m ≡ q + 4 → to + q + 4 ≤ length heap₀
-      → a ≡ get_or heap₀ (from + q) 0 → b ≡ get_or heap₀ (from + q + 1) 0 → c ≡ get_or heap₀ (from + q + 2) 0 → d ≡ get_or heap₀ (from + q + 3) 0
-      → Landed n heap → Landed m (with_four (to + q) a b c d heap)
-  landed_four n m q a b c d heap few near e inside ea eb ec ed l =
-      landed_put (max n (q + 3)) m (q + 3) _ _ d _ (omega arith) (omega arith) (omega arith) (omega arith) (omega arith) ed
-      (landed_put (max n (q + 2)) _ (q + 2) _ _ c _ (omega arith) (omega arith) (omega arith) (omega arith) (omega arith) ec
-      (landed_put (max n (q + 1)) _ (q + 1) _ _ b _ (omega arith) (omega arith) (omega arith) (omega arith) (omega arith) eb
-      (landed_put n _ q _ _ a heap few (omega arith) (omega arith) (omega arith) (omega arith) ea l)))
+  -- four more of them, those before may be among them
+  pub landed_four : (n m q : ℕ) (heap words : List ℕ) → q ≤ n → n ≤ q + 4 → m ≡ q + 4 → to + q + 4 ≤ length heap₀ → words ≡ four_at (from + q) heap₀
+      → Landed n heap → Landed m (with_four (to + q) words heap)
+  landed_four n m q heap words few near e inside is l =
+      rw is
+      (landed_put (max n (q + 3)) m (q + 3) _ _ _ _ (omega arith) (omega arith) (omega arith) refl (omega arith) (ap (λ (z : ℕ). get_or heap₀ z 0) (omega arith))
+      (landed_put (max n (q + 2)) _ (q + 2) _ _ _ _ (omega arith) (omega arith) (omega arith) refl (omega arith) (ap (λ (z : ℕ). get_or heap₀ z 0) (omega arith))
+      (landed_put (max n (q + 1)) _ (q + 1) _ _ _ _ (omega arith) (omega arith) (omega arith) refl (omega arith) (ap (λ (z : ℕ). get_or heap₀ z 0) (omega arith))
+      (landed_put n _ q _ _ _ heap few (omega arith) refl refl (omega arith) refl l))))
 
   copies_landed : (n : ℕ) → to ≤ from → to + n ≤ length heap₀ → Landed n (copies from to n heap₀)
   unfolding copies
@@ -81,20 +82,24 @@ module _ (heap₀ : List ℕ) (from to : ℕ) where
       (landed_put 1 _ (n / 2) _ _ _ _ (omega arith) refl refl refl (omega arith) refl
       (landed_put 0 1 0 to from _ heap₀ (omega arith) (omega arith) (omega arith) (omega arith) (omega arith) refl landed_start)))
 
-  -- four more of them, read as they stand now
-  pub landed_next : (i : ℕ) (heap heap' : List ℕ) → to ≤ from → to + i + 4 ≤ length heap₀ → heap' ≡ four_copied (from + i) (to + i) heap → Landed i heap → Landed (i + 4) heap'
-  landed_next i heap heap' down h e l =
-      rw e
-      (landed_four i (i + 4) i _ _ _ _ heap (omega arith) (omega arith) refl h (landed_read i i _ heap down (omega arith) refl l)
-      (landed_read i (i + 1) _ heap down (omega arith) (omega arith) l) (landed_read i (i + 2) _ heap down (omega arith) (omega arith) l)
-      (landed_read i (i + 3) _ heap down (omega arith) (omega arith) l) l)
+  -- what is still to be copied stands as it stood, four words of it too
+  four_read : (n q : ℕ) (heap : List ℕ) → to ≤ from → n ≤ q → Landed n heap → four_at (from + q) heap ≡ four_at (from + q) heap₀
+  four_read n q heap down h l =
+      rw (
+        landed_read n q (from + q) heap down h refl l,
+        landed_read n (q + 1) (from + q + 1) heap down (omega arith) (omega arith) l,
+        landed_read n (q + 2) (from + q + 2) heap down (omega arith) (omega arith) l,
+        landed_read n (q + 3) (from + q + 3) heap down (omega arith) (omega arith) l,
+      )
+
+  -- four more, read as they stand now
+  pub landed_next : (i : ℕ) (heap words : List ℕ) → to ≤ from → to + i + 4 ≤ length heap₀ → words ≡ four_at (from + i) heap → Landed i heap → Landed (i + 4) (with_four (to + i) words heap)
+  landed_next i heap words down h e l = landed_four i (i + 4) i heap words (omega arith) (omega arith) refl h (e ∙ four_read i i heap down (omega arith) l) l
 
   -- the last four, read as they stood at first
-  pub landed_last : (n i : ℕ) (heap heap' : List ℕ) → 4 ≤ n → n - 4 ≤ i → i ≤ n → to ≤ from → to + n ≤ length heap₀
-      → heap' ≡ (let p = from + (n - 4) in with_four (to + (n - 4)) (get_or heap₀ p 0) (get_or heap₀ (p + 1) 0) (get_or heap₀ (p + 2) 0) (get_or heap₀ (p + 3) 0) heap)
-      → Landed i heap → heap' ≡ copies from to n heap₀
-  landed_last n i heap heap' many past few down h e l =
-      e ∙ landed_end n _ down h (landed_four i n (n - 4) _ _ _ _ heap past (omega arith) (omega arith) (omega arith) refl refl refl refl l)
+  pub landed_last : (n i : ℕ) (heap words : List ℕ) → 4 ≤ n → n - 4 ≤ i → i ≤ n → to ≤ from → to + n ≤ length heap₀ → words ≡ four_at (from + (n - 4)) heap₀ → Landed i heap
+      → with_four (to + (n - 4)) words heap ≡ copies from to n heap₀
+  landed_last n i heap words many past few down h e l = landed_end n _ down h (landed_four i n (n - 4) heap words past (omega arith) (omega arith) (omega arith) e l)
 
 -- ## One after the other
 -- the next k live words stand in a row: to move them is to copy k words

@@ -2,7 +2,7 @@
 use mathlib.Core.Path.{◌≡◌, sym, ap, ◌∙◌, subst}
 use mathlib.Core.Logic.{⊎_elim}
 use mathlib.Core.Bool.{Bool, true, false, not, ◌&&◌, and-true, and-false}
-use Prim.Native.Nat.{ℕ, zero, suc, ◌+◌, ◌-◌, ◌*◌, ◌/◌, ◌%◌, ◌^◌, ◌≤◌, ◌<◌}
+use Prim.Native.Nat.{ℕ, zero, suc, ◌+◌, ◌-◌, ◌*◌, ◌/◌, ◌%◌, ◌^◌, ◌≤◌, ◌<◌, min}
 use native.Mathlib.Nat.{mod-lt}
 use native.Mathlib.Omega.{arith}
 use lib.Count.{count_trailing_zeros, trailing_of_zero, trailing_le}
@@ -62,11 +62,8 @@ module _ (k w z : ℕ) (h : w < 2 ^ k) (inside : z < k) (set : bit_set w z ≡ t
       (eq_or_ne others 0)
 
   -- all of them, or as many as are wanted
-  pub run-whole : (most : ℕ) → count_trailing_zeros k others < most → Run w z most (count_trailing_zeros k others)
-  run-whole most l = record { some = run-some; few = omega arith; all = run_all }
-
-  pub run_part : (most : ℕ) → 0 < most → most ≤ count_trailing_zeros k others → Run w z most most
-  run_part most s l = record { some = s; few = omega arith; all = λ i g r. run_all i g (omega arith) }
+  pub run_min : (most : ℕ) → 0 < most → Run w z most (min (count_trailing_zeros k others) most)
+  run_min most s = record { some = omega (arith, run-some); few = omega arith; all = λ i g r. run_all i g (omega arith) }
 
 -- ## Left from a bit on
 module _ (k w at : ℕ) (some : 0 < at) where

@@ -1,5 +1,5 @@
 -- Bits set in a row, and words in a row copied.
-use Rattle.std.specs.Prelude.{ℕ, zero, suc, ◌+◌, ◌≤◌, ◌<◌, ◌≡◌, true, List, get_or, set}
+use Rattle.std.specs.Prelude.{ℕ, zero, suc, ◌+◌, ◌≤◌, ◌<◌, ◌≡◌, true, List, [], ◌∷◌, get_or, set}
 use Rattle.meaning.specs.Places.{bit_set}
 
 -- the n bits from bit z on are set: one at least, and at most so many
@@ -13,10 +13,11 @@ unfoldable pub copies : ℕ → ℕ → ℕ → List ℕ → List ℕ
 copies from to zero heap = heap
 copies from to (suc n) heap = let h = copies from to n heap in set h (to + n) (get_or h (from + n) 0)
 
--- four words in a row stored at a place, one after the other
-abbrev pub with_four : ℕ → ℕ → ℕ → ℕ → ℕ → List ℕ → List ℕ
-with_four at a b c d heap = set (set (set (set heap at a) (at + 1) b) (at + 2) c) (at + 3) d
+-- four words in a row
+abbrev pub four_at : ℕ → List ℕ → List ℕ
+four_at at heap = get_or heap at 0 ∷ get_or heap (at + 1) 0 ∷ get_or heap (at + 2) 0 ∷ get_or heap (at + 3) 0 ∷ []
 
--- four words in a row stored at place `to` as they stand at place `from`
-abbrev pub four_copied : ℕ → ℕ → List ℕ → List ℕ
-four_copied from to heap = with_four to (get_or heap from 0) (get_or heap (from + 1) 0) (get_or heap (from + 2) 0) (get_or heap (from + 3) 0) heap
+-- four words in a row stored at a place, one after the other
+abbrev pub with_four : ℕ → List ℕ → List ℕ → List ℕ
+with_four at words heap =
+    set (set (set (set heap at (get_or words 0 0)) (at + 1) (get_or words 1 0)) (at + 2) (get_or words 2 0)) (at + 3) (get_or words 3 0)

@@ -1,12 +1,12 @@
 -- What the searches of the check look for, and what they rely on.
-use Rattle.std.specs.Prelude.{ℕ, ◌+◌, ◌*◌, ◌<◌, ◌≡◌, Bool, true, not, ◌&&◌, List, length, get_or}
+use Rattle.std.specs.Prelude.{ℕ, ◌+◌, ◌*◌, ◌<◌, ◌≡◌, Bool, true, not, ◌&&◌, List, length, get_or, Option, slice_get}
 use Rattle.meaning.specs.Limits.{block_words}
 use Rattle.meaning.specs.Values.{is_ref, place_of}
 use Rattle.meaning.specs.Places.{places_from, bit_set, marked}
 
--- the lowest place below n that passes, or n
-abbrev pub first_of : (ℕ → Bool) → ℕ → ℕ
-first_of t n = get_or (places_from t 0 n) 0 n
+-- the lowest place below n that passes, if there is one
+abbrev pub first_of : (ℕ → Bool) → ℕ → Option ℕ
+first_of t n = slice_get (places_from t 0 n) 0
 
 -- a mark that is at no header
 abbrev pub stray : List ℕ → List ℕ → ℕ → Bool

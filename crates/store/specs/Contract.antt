@@ -1,16 +1,19 @@
 -- The contract of every store call: the answer and all lent memory are those of the call on paper.
-use Rattle.std.specs.Prelude.{◌≡◌, ℕ, List}
-use Rattle.meaning.specs.Answers.{Answer as Answered, gives, refused}
+use Rattle.std.specs.Prelude.{◌≡◌, ℕ, List, length, ltb, cond, Result, Ok, Err}
+use Rattle.meaning.specs.Answers.{Answer as Answered}
 use Rattle.meaning.specs.Calls.{Call as OnPaperCall, put_int, put_nil, copy, new_record, new_raw, read_field, write_field, read_raw, write_raw, ask, same, Said as OnPaper, Brought, Did, done, integer, is_nil, is_record, is_raw, word, the_same, collected, tick}
 use Rattle.meaning.specs.Store.{Store as PaperStore, Mem, collects}
 use Rattle.meaning.specs.Collect.{After, collect}
 use Rattle.meaning.specs.Sequences.{said, after}
+use Rattle.refusals.specs.Paper.{answer_of}
+use Rattle.refusals.specs.declared.Refusal.{Refusal}
+use Rattle.refusals.specs.declared.Refusal.TheVariants.{NoSlot}
 use Rattle.store.specs.declared.Store.{Store}
 use Rattle.store.specs.declared.Answer.{Answer}
 use Rattle.store.specs.declared.Call.{Call}
 use Rattle.store.specs.declared.Call.TheVariants.{PutInt, PutNil, Copy, NewRecord, NewRaw, ReadField, WriteField, ReadRaw, WriteRaw, Ask, Same as SameCall}
 use Rattle.store.specs.declared.Said.{Said}
-use Rattle.store.specs.declared.Said.TheVariants.{Done, Integer, Nil, Record, Raw, Word, Same, Collected, Refused}
+use Rattle.store.specs.declared.Said.TheVariants.{Done, Integer, Nil, Record, Raw, Word, Same, Collected}
 
 abbrev pub store_of : Store → PaperStore
 store_of s = record { top = s.top; calls = s.calls }
@@ -18,17 +21,25 @@ store_of s = record { top = s.top; calls = s.calls }
 abbrev pub mem_of : List ℕ → List ℕ → Store → Mem
 mem_of heap slots s = record { heap = heap; slots = slots; store = store_of s }
 
+-- what an accepted call says, on paper
+abbrev pub paper_said : Said → OnPaper
+paper_said Done = done
+paper_said (Integer z) = integer z
+paper_said Nil = is_nil
+paper_said (Record n) = is_record n
+paper_said (Raw n) = is_raw n
+paper_said (Word w) = word w
+paper_said (Same b) = the_same b
+paper_said (Collected top objects blocks) = collected (record { top = top; objects = objects; blocks = blocks })
+
 -- the answer on paper
-abbrev pub said_of : Said → Answered OnPaper
-said_of Done = gives done
-said_of (Integer z) = gives (integer z)
-said_of Nil = gives is_nil
-said_of (Record n) = gives (is_record n)
-said_of (Raw n) = gives (is_raw n)
-said_of (Word w) = gives (word w)
-said_of (Same b) = gives (the_same b)
-said_of (Collected top objects blocks) = gives (collected (record { top = top; objects = objects; blocks = blocks }))
-said_of (Refused n p) = refused n p
+abbrev pub said_of : Result Answer Refusal → Answered OnPaper
+said_of = answer_of (λ a. paper_said a.said)
+
+-- the record after the call: the one given back, else the one at entry
+abbrev pub store_after : Mem → Result Answer Refusal → PaperStore
+store_after m (Ok a) = store_of a.store
+store_after m (Err e) = m.store
 
 -- the call on paper
 abbrev pub call_of : Call → OnPaperCall
@@ -45,14 +56,15 @@ call_of (Ask s) = ask s
 call_of (SameCall s t) = same s t
 
 -- m is the memory at entry, x the call on paper; r the answer, heap and slots the lent memory at exit
-pub record Leaves (m : Mem) (x : Answered (Did Mem)) (r : Answer) (heap slots : List ℕ) : Type 0 where
-  pub answer_is : said_of r.said ≡ said x
-  pub store_is : store_of r.store ≡ (after m x).store
+pub record Leaves (m : Mem) (x : Answered (Did Mem)) (r : Result Answer Refusal) (heap slots : List ℕ) : Type 0 where
+  pub answer_is : said_of r ≡ said x
+  pub store_is : store_after m r ≡ (after m x).store
   pub heap_is : heap ≡ (after m x).heap
   pub slots_are : slots ≡ (after m x).slots
 
-abbrev pub refused_of : Store → ℕ → ℕ → Answer
-refused_of s n p = record { store = s; said = Refused n p }
+-- where slot s is, or refusal 7
+abbrev pub slot_of : List ℕ → ℕ → Result ℕ Refusal
+slot_of slots s = cond (ltb s (length slots)) (Ok s) (Err (NoSlot s))
 
 -- the record after an accepted call that leaves the top
 abbrev pub ticked_of : Store → Store
@@ -60,10 +72,6 @@ ticked_of s = record { top = s.top; calls = tick s.calls }
 
 abbrev pub told_of : Store → Said → Answer
 told_of s a = record { store = ticked_of s; said = a }
-
--- the record after an accepted collection: its top is the new one
-abbrev pub shrunk_of : Store → ℕ → Store
-shrunk_of s n = record { top = n; calls = tick s.calls }
 
 -- the bare collection of a store's heap, top and slots, with what is brought
 abbrev pub collection_of : Mem → Brought → After
@@ -73,7 +81,7 @@ abbrev pub brought_of : List ℕ → List ℕ → List ℕ → List ℕ → Brou
 brought_of marks order live offsets = record { marks = marks; order = order; live = live; offsets = offsets }
 
 -- the collect call: also the marks and the tables at exit are those of the collection
-pub record LeavesCollected (m : Mem) (b : Brought) (r : Answer) (heap slots marks live offsets : List ℕ) : Type 0 where
+pub record LeavesCollected (m : Mem) (b : Brought) (r : Result Answer Refusal) (heap slots marks live offsets : List ℕ) : Type 0 where
   pub leaves : Leaves m (collects m b) r heap slots
   pub marks_are : marks ≡ (collection_of m b).marks
   pub live_is : live ≡ (collection_of m b).live

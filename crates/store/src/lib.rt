@@ -1,22 +1,27 @@
-// What the store calls share: the small record, the calls and what they say, refusal 1, and how a call is refused or answered.
+// What the store calls share: the small record, the calls and what they say, refusals 1 and 7, and how a call is answered.
 #![tactic(auto)]
 
-ghost use Rattle.std.specs.Prelude.{◌≡◌};
+ghost use Rattle.std.specs.Prelude.{◌≡◌, Some};
 ghost use Rattle.meaning.specs.Calls.{fits as fits_of};
 ghost use Rattle.meaning.specs.Store.{view_of};
-ghost use Rattle.store.specs.Contract.{mem_of, refused_of, told_of};
+ghost use Rattle.refusals.specs.Paper.{refuse_unless};
+ghost use Rattle.store.specs.Printed.{text_of};
+ghost use Rattle.store.specs.Contract.{mem_of, slot_of, told_of};
 
 use limits::{HEAP_WORDS, ROOT_SLOTS};
+use refusals::Refusal;
+use std::fmt;
 
 // The small record: the words in use, and the calls answered without refusal.
-#[derive(Clone, Copy)]
+#[derive(Clone, Copy, Debug, PartialEq, Eq)]
 pub struct Store {
     pub top: u32,
     pub calls: u64,
 }
 
-// What a call says. No case holds a place of an object.
-#[derive(Clone, Copy)]
+// What an accepted call says. No case holds a place of an object. `Collected` has the new top, the objects and the target blocks by
+// themselves: a type for the three would be a crate of its own below this one and the collection, and say no more.
+#[derive(Clone, Copy, Debug, PartialEq, Eq)]
 pub enum Said {
     Done,
     Integer(i32),
@@ -26,17 +31,36 @@ pub enum Said {
     Word(u32),
     Same(bool),
     Collected(u32, u32, u32),
-    Refused(u32, u32),
 }
 
-#[derive(Clone, Copy)]
+impl fmt::Display for Said {
+    ghost output = { λ a. Some (text_of a) };
+
+    fn fmt<W: fmt::Write>(&self, f: &mut fmt::Formatter<W>) -> fmt::Result {
+        match *self {
+            Said::Done => write!(f, "done"),
+            Said::Integer(value) => write!(f, "integer {value}"),
+            Said::Nil => write!(f, "nil"),
+            Said::Record(count) => write!(f, "record {count}"),
+            Said::Raw(count) => write!(f, "raw {count}"),
+            Said::Word(word) => write!(f, "word {word}"),
+            Said::Same(same) => write!(f, "same {same}"),
+            Said::Collected(top, objects, blocks) => {
+                write!(f, "collected {top} {objects} {blocks}")
+            }
+        }
+    }
+}
+
+// The record that an accepted call gives back, and what it says. After a refusal the caller's record stands.
+#[derive(Clone, Copy, Debug, PartialEq, Eq)]
 pub struct Answer {
     pub store: Store,
     pub said: Said,
 }
 
 // A call with its numbers, in the order of the functions' parameters. A collection is no such call: it borrows more.
-#[derive(Clone, Copy)]
+#[derive(Clone, Copy, Debug, PartialEq, Eq)]
 pub enum Call {
     PutInt(u32, i32),
     PutNil(u32),
@@ -51,21 +75,32 @@ pub enum Call {
     Same(u32, u32),
 }
 
-// Refusal 1: whether heap, top and slots fit.
+// Whether heap, top and slots fit. Record, heap and slots stay three parameters, here and in every call: the record comes and goes by
+// value, and a call borrows heap and slots each to read or to change.
 pub fn fits(store: Store, heap: &[u32], roots: &[u32]) -> bool
     ensures { result ≡ fits_of (view_of (mem_of heap.now roots.now store)) }
 {
-    (heap.len() <= HEAP_WORDS) & ((store.top as usize <= heap.len()) & (roots.len() <= ROOT_SLOTS))
+    heap.len() <= HEAP_WORDS && store.top as usize <= heap.len() && roots.len() <= ROOT_SLOTS
 }
 
-// A refusal leaves the record as found.
-pub fn refused(store: Store, number: u32, place: u32) -> Answer
-    ensures { result ≡ refused_of store number place }
+// Refusal 1, where they do not.
+pub fn admit(store: Store, heap: &[u32], roots: &[u32]) -> Result<(), Refusal>
+    ensures { result ≡ refuse_unless (fits_of (view_of (mem_of heap.now roots.now store))) Refusal.Sizes }
 {
-    Answer {
-        store: store,
-        said: Said::Refused(number, place),
+    if !fits(store, heap, roots) {
+        return Err(Refusal::Sizes);
     }
+    Ok(())
+}
+
+// Where the slot of this number is; refusal 7 past the last.
+pub fn slot(roots: &[u32], number: u32) -> Result<usize, Refusal>
+    ensures { result ≡ slot_of roots.now number }
+{
+    if roots.len() <= number as usize {
+        return Err(Refusal::NoSlot(number));
+    }
+    Ok(number as usize)
 }
 
 // What an accepted call says; the count wraps on purpose.
@@ -74,9 +109,9 @@ pub fn told(store: Store, said: Said) -> Answer
 {
     Answer {
         store: Store {
-            top: store.top,
-            calls: std::num::wrapping_add_u64(store.calls, 1),
+            calls: store.calls.wrapping_add(1),
+            ..store
         },
-        said: said,
+        said,
     }
 }

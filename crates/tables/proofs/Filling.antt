@@ -39,7 +39,6 @@ module _ (words : List ℕ) where
 
   module _ (n : ℕ) where
     pub record Filling (live offsets : List ℕ) (sum b : ℕ) : Type 0 where
-      pub low : b ≤ n
       pub live-length : length live ≡ n
       pub offsets-length : length offsets ≡ n
       pub counted : sum ≡ offset_of b
@@ -48,7 +47,6 @@ module _ (words : List ℕ) where
 
     pub filling-start : (live offsets : List ℕ) → length live ≡ n → length offsets ≡ n → Filling live offsets 0 0
     filling-start live offsets e f = record {
-      low = omega arith;
       live-length = e;
       offsets-length = f;
       counted = sym (below-zero (marked words));
@@ -56,33 +54,26 @@ module _ (words : List ℕ) where
       entries = below_none (λ i. get_or offsets i 0 ≡ offset_of i);
     }
 
-    -- the word is read back from the live table, where its range is known
-    pub filling-next : (live offsets : List ℕ) (sum b here : ℕ) → b < n → get_or (set live b (get_or words b 0)) b 0 < 2 ^ block_words
-        → here ≡ below (bit_set (get_or (set live b (get_or words b 0)) b 0)) block_words → Filling live offsets sum b
+    pub filling-next : (live offsets : List ℕ) (sum b here : ℕ) → b < n → get_or words b 0 < 2 ^ block_words
+        → here ≡ below (bit_set (get_or words b 0)) block_words → Filling live offsets sum b
         → Filling (set live b (get_or words b 0)) (set offsets b sum) (sum + here) (b + 1)
     filling-next live offsets sum b here h fits e i =
-        let h₁ : b < length live = omega arith in
-        let h₂ : b < length offsets = omega arith in
-        let same = get_or-set_same live b (get_or words b 0) 0 h₁ in
         let next : offset_of (b + 1) ≡ below (marked words) (block_words * b + block_words) = ap (below (marked words)) (omega arith) in
         record {
-          low = omega arith;
           live-length = simp length-set i.live-length;
           offsets-length = simp length-set i.offsets-length;
-          counted = omega (arith, next, below-block words b block_words (omega arith), rw same at e);
-          bits = first_more b live bits_of (get_or words b 0) h₁ (word-bits b (rw same at fits)) i.bits;
-          entries = first_more b offsets offset_of sum h₂ i.counted i.entries;
+          counted = omega (arith, next, below-block words b block_words (omega arith));
+          bits = first_more b live bits_of (get_or words b 0) (omega arith) (word-bits b fits) i.bits;
+          entries = first_more b offsets offset_of sum (omega arith) i.counted i.entries;
         }
 
-    pub filling-end : (live offsets : List ℕ) (sum b : ℕ) → n ≤ b → Filling live offsets sum b → Filled words n live offsets sum
+    pub filling-end : (live offsets : List ℕ) (sum : ℕ) → Filling live offsets sum n → Filled words n live offsets sum
     unfolding bitmap
-    filling-end live offsets sum b h i =
-        let e : b ≡ n = omega arith in
-        record {
-          bits = is_table bits_of live n i.live-length (λ k l. i.bits k (omega arith));
-          entries = is_table offset_of offsets n i.offsets-length (λ k l. i.entries k (omega arith));
-          count = i.counted ∙ ap offset_of e;
-        }
+    filling-end live offsets sum i = record {
+      bits = is_table bits_of live n i.live-length i.bits;
+      entries = is_table offset_of offsets n i.offsets-length i.entries;
+      count = i.counted;
+    }
 
     -- the tables that the pass leaves are exact
     pub filled-exact : (live offsets : List ℕ) (total : ℕ) → n ≤ table_entries → Filled words n live offsets total → Exact live offsets

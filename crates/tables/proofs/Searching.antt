@@ -8,7 +8,7 @@ use Rattle.meaning.specs.Limits.{block_words}
 use Rattle.meaning.specs.Answers.{gives}
 use Rattle.meaning.specs.Places.{below, src, bit_set, marked}
 use Rattle.meaning.specs.Lookups.{at, none, new_to_old}
-use Rattle.meaning.proofs.Counting.{below-zero, src_below, src_live, src-within}
+use Rattle.meaning.proofs.Counting.{src_below, src_live, src-within}
 use Rattle.meaning.proofs.Bitmaps.{marked-block, below-block}
 use Rattle.meaning.proofs.LookupsInverse.{TablesFit, old_at, old_none}
 
@@ -17,18 +17,15 @@ abbrev pub of_block : List ℕ → ℕ → ℕ
 of_block live b = below (bit_set (get_or live b 0)) block_words
 
 module _ (live : List ℕ) (n : ℕ) where
-  pub record Searching (left b : ℕ) : Type 0 where
-    pub low : b ≤ length live
-    pub passed : n ≡ below (marked live) (block_words * b) + left
-
-  pub searching_start : Searching n 0
-  searching_start = record { low = omega arith; passed = omega (arith, below-zero (marked live)) }
+  -- `left` more than the live words below block b
+  abbrev pub Searching : ℕ → ℕ → Type 0
+  Searching left b = n ≡ below (marked live) (block_words * b) + left
 
   -- the block has too few
-  pub searching_next : (left b here : ℕ) → b < length live → here ≡ of_block live b → here ≤ left → Searching left b → Searching (left - here) (b + 1)
-  searching_next left b here h e l s =
+  pub searching_next : (left b here : ℕ) → here ≡ of_block live b → here ≤ left → Searching left b → Searching (left - here) (b + 1)
+  searching_next left b here e l s =
       let next : below (marked live) (block_words * (b + 1)) ≡ below (marked live) (block_words * b + block_words) = ap (below (marked live)) (omega arith) in
-      record { low = omega arith; passed = omega (arith, next, below-block live b block_words (omega arith)) }
+      omega (arith, next, below-block live b block_words (omega arith))
 
   module _ (offsets : List ℕ) (fit : TablesFit live offsets) where
     -- the block has it
@@ -43,7 +40,5 @@ module _ (live : List ℕ) (n : ℕ) where
         (omega (arith, below-block live b i (omega arith)))
 
     -- no block has
-    pub searching_end : (left b : ℕ) → length live ≤ b → Searching left b → new_to_old live offsets n ≡ gives none
-    searching_end left b h s =
-        let e : b ≡ length live = omega arith in
-        old_none live offsets fit n (omega (arith, ap (λ (x : ℕ). below (marked live) (block_words * x)) e))
+    pub searching_end : (left b : ℕ) → b ≡ length live → Searching left b → new_to_old live offsets n ≡ gives none
+    searching_end left b e s = old_none live offsets fit n (omega (arith, ap (λ (x : ℕ). below (marked live) (block_words * x)) e))

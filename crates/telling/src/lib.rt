@@ -2,128 +2,113 @@
 // which stay as found on a refusal.
 #![tactic(auto)]
 
-ghost use Rattle.std.specs.Prelude.{◌+◌, ◌*◌, ◌≡◌, set};
-ghost use Rattle.objects.specs.Examined.{checked_counts};
-ghost use Rattle.tables.specs.Paper.{lookup_answer};
-ghost use Rattle.compactor.specs.Collects.{collected_totals};
-ghost use Rattle.store.specs.Contract.{said_of};
-ghost use Rattle.telling.specs.Out.{Says, code as code_of, count_words, found_words, total_words, bits64, said_words};
+ghost use Rattle.std.specs.Prelude.{ℕ, ◌+◌, ◌*◌, ◌≡◌, ◌≤◌, List};
+ghost use Rattle.std.proofs.lemmas.List.Edits.{sets};
+ghost use Rattle.refusals.specs.Paper.{answer_of};
+ghost use Rattle.objects.specs.Examined.{counts_of};
+ghost use Rattle.tables.specs.Paper.{found_of};
+ghost use Rattle.compactor.specs.Collects.{totals_of};
+ghost use Rattle.store.specs.Contract.{paper_said};
+ghost use Rattle.telling.specs.Out.{Says, code as code_of, count_words, found_words, total_words, said_words};
 
-use compactor::Collected;
-use objects::Checked;
+use compactor::Totals;
+use objects::Counts;
+use refusals::Refusal;
 use store::Said;
-use tables::Lookup;
+use words::Place;
 
-// A refusal as C gets it.
-fn refusal(number: u32, place: u32) -> u64
+// What goes into the four words: so many values, in front.
+pub trait Values {
+    ghost words: { Self → List ℕ };
+
+    fn put(self, out: &mut [u64; 4])
+        ensures { out.new ≡ sets out.old 0 (words self) };
+}
+
+// The values in front; the words behind them stay as found.
+fn put_front<const N: usize>(out: &mut [u64; 4], values: [u64; N])
+    requires { N ≤ 4 }
+    ensures { out.new ≡ sets out.old 0 values.entry }
+{
+    out[..N].copy_from_slice(&values);
+}
+
+// The check's values.
+impl Values for Counts {
+    ghost words = { λ c. count_words (counts_of c) };
+
+    fn put(self, out: &mut [u64; 4]) {
+        put_front(out, [self.live, self.objects].map(u64::from));
+    }
+}
+
+// The bare collection's.
+impl Values for Totals {
+    ghost words = { λ t. total_words (totals_of t) };
+
+    fn put(self, out: &mut [u64; 4]) {
+        put_front(out, [self.top, self.objects, self.blocks].map(u64::from));
+    }
+}
+
+// A lookup's.
+impl Values for Option<Place> {
+    ghost words = { λ p. found_words (found_of p) };
+
+    fn put(self, out: &mut [u64; 4]) {
+        match self {
+            Some(place) => put_front(out, [1, u64::from(place.number())]),
+            None => put_front(out, [0]),
+        }
+    }
+}
+
+// A store call's.
+impl Values for Said {
+    ghost words = { λ a. said_words (paper_said a) };
+
+    fn put(self, out: &mut [u64; 4]) {
+        match self {
+            Said::Done => {}
+            Said::Integer(value) => put_front(out, [0, i64::from(value).cast_unsigned()]),
+            Said::Nil => put_front(out, [1]),
+            Said::Record(count) => put_front(out, [2, u64::from(count)]),
+            Said::Raw(count) => put_front(out, [3, u64::from(count)]),
+            Said::Word(word) => put_front(out, [u64::from(word)]),
+            Said::Same(same) => put_front(out, [u64::from(same)]),
+            Said::Collected(top, objects, blocks) => {
+                put_front(out, [top, objects, blocks].map(u64::from))
+            }
+        }
+    }
+}
+
+// A refusal's number + 256 * the place reported, as C's interface has it; of any two numbers.
+pub fn refused(number: u32, place: u32) -> u64
     ensures { result ≡ number + 256 * place }
 {
-    number as u64 + 256 * (place as u64)
-}
-
-// The check's answer as C gets it.
-pub fn say_checked(checked: Checked, out: &mut [u64; 4]) -> u64
-    ensures { Says count_words (checked_counts checked) out.old result out.new }
-{
-    match checked {
-        Checked::Passed(live, objects) => {
-            out[0] = live as u64;
-            out[1] = objects as u64;
-            0
-        }
-        Checked::Refused(number, place) => refusal(number, place),
-    }
-}
-
-// The collection's answer as C gets it.
-pub fn say_collected(collected: Collected, out: &mut [u64; 4]) -> u64
-    ensures { Says total_words (collected_totals collected) out.old result out.new }
-{
-    match collected {
-        Collected::Done(top, objects, blocks) => {
-            out[0] = top as u64;
-            out[1] = objects as u64;
-            out[2] = blocks as u64;
-            0
-        }
-        Collected::Refused(number, place) => refusal(number, place),
-    }
-}
-
-// A lookup's answer as C gets it.
-pub fn say_lookup(found: Lookup, out: &mut [u64; 4]) -> u64
-    ensures { Says found_words (lookup_answer found) out.old result out.new }
-{
-    match found {
-        Lookup::At(place) => {
-            out[0] = 1;
-            out[1] = place.number() as u64;
-            0
-        }
-        Lookup::Nowhere => {
-            out[0] = 0;
-            0
-        }
-        Lookup::Refused => 1,
-    }
-}
-
-// An integer in 64 bits, two's complement.
-fn bits(value: i32) -> u64
-    ensures { result ≡ bits64 value }
-{
-    if value < 0 {
-        return 18446744073709551615 - ((-1 - value) as u64);
-    }
-    value as u64
+    u64::from(number) + 256 * u64::from(place)
 }
 
 // The number alone, for a call that has no values.
-pub fn code(said: Said) -> u64
-    ensures { result ≡ code_of (said_of said) }
+pub fn code(answer: Result<Said, Refusal>) -> u64
+    ensures { result ≡ code_of (answer_of paper_said answer) }
 {
-    match said {
-        Said::Refused(number, place) => refusal(number, place),
-        _ => 0,
+    match answer {
+        Ok(_) => 0,
+        Err(refusal) => refused(refusal.number(), refusal.place()),
     }
 }
 
-// Accepted, with a kind and its value.
-fn pair(kind: u64, value: u64, out: &mut [u64; 4]) -> u64
-    ensures { (result ≡ 0) × (out.new ≡ set (set out.old 0 kind) 1 value) }
-{
-    out[0] = kind;
-    out[1] = value;
-    0
-}
-
 // The number, and the values in the lent words.
-pub fn say(said: Said, out: &mut [u64; 4]) -> u64
-    ensures { Says said_words (said_of said) out.old result out.new }
+pub fn say<T: Values>(answer: Result<T, Refusal>, out: &mut [u64; 4]) -> u64
+    ensures { Says (λ ws. ws) (answer_of T.words answer) out.old result out.new }
 {
-    match said {
-        Said::Done => 0,
-        Said::Integer(value) => pair(0, bits(value), out),
-        Said::Nil => {
-            out[0] = 1;
+    match answer {
+        Ok(values) => {
+            values.put(out);
             0
         }
-        Said::Record(count) => pair(2, count as u64, out),
-        Said::Raw(count) => pair(3, count as u64, out),
-        Said::Word(word) => {
-            out[0] = word as u64;
-            0
-        }
-        Said::Same(same) => {
-            out[0] = same as u64;
-            0
-        }
-        Said::Collected(top, objects, blocks) => {
-            out[0] = top as u64;
-            out[1] = objects as u64;
-            out[2] = blocks as u64;
-            0
-        }
-        Said::Refused(number, place) => refusal(number, place),
+        Err(refusal) => refused(refusal.number(), refusal.place()),
     }
 }

@@ -3,91 +3,74 @@
 
 ghost use Rattle.std.specs.Prelude.{◌+◌, ◌*◌, ◌≤◌, ◌++◌, length};
 ghost use Rattle.meaning.specs.Answers.{gives};
-ghost use Rattle.meaning.specs.Text.{digits, decimal, spaced, newline, refused_line, ok_line, lines};
-ghost use Rattle.text.specs.Placed.{Placed};
+ghost use Rattle.meaning.specs.Text.{decimal, spaced, newline, refused_line, lines};
+ghost use Rattle.text.specs.Placed.{Placed, Puts};
 
-// Each inner function writes from place `at` on and answers the place after what it wrote.
-fn put_bytes(out: &mut [u8], at: usize, bytes: &[u8]) -> usize
-    requires { at + length bytes.now ≤ length out.old }
-    ensures { Placed out.old out.new at bytes.now (length bytes.now) result }
-{
-    let mut i = 0;
-    while i < bytes.len() {
-        out[at + i] = bytes[i];
-        i += 1;
+use itoa::Buffer;
+
+// A buffer, and the place after what is written in it.
+#[derive(Drop)]
+struct Line<'a> {
+    out: &'a mut [u8],
+    at: usize,
+}
+
+impl Line<'_> {
+    fn put(&mut self, text: &str)
+        requires { self.old.at + length text.now ≤ length self.old.out.now }
+        ensures { Puts self.old self.new text.now (length text.now) }
+    {
+        let end = self.at + text.len();
+        self.out[self.at..end].copy_from_slice(text.as_bytes());
+        self.at = end;
     }
-    at + i
-}
 
-// The leading digits come first: they are those of a tenth of n.
-fn put_digits(out: &mut [u8], at: usize, n: u32, k: usize) -> usize
-    requires { at + k ≤ length out.old }
-    ensures { Placed out.old out.new at (digits k n) k result }
-{
-    if k == 0 {
-        return at;
+    // In decimals, by itoa: a `write!` may answer an error, and no clause says when it does not.
+    fn put_number(&mut self, n: u32)
+        requires { self.old.at + 10 ≤ length self.old.out.now }
+        ensures { Puts self.old self.new (decimal n) 10 }
+    {
+        let mut buffer = Buffer::new();
+        self.put(buffer.format(n));
     }
-    if n < 10 {
-        out[at] = 48 + n as u8;
-        return at + 1;
+
+    // Each after a space.
+    fn put_numbers(&mut self, numbers: &[u32])
+        requires { self.old.at + 11 * length numbers.now ≤ length self.old.out.now }
+        ensures { Puts self.old self.new (spaced numbers.now) (11 * length numbers.now) }
+    {
+        for n in numbers {
+            self.put(" ");
+            self.put_number(*n);
+        }
     }
-    let last = put_digits(out, at, n / 10, k - 1);
-    out[last] = 48 + (n % 10) as u8;
-    last + 1
-}
 
-// A label and a number.
-fn put_labelled(out: &mut [u8], at: usize, label: &[u8], n: u32) -> usize
-    requires { at + length label.now + 10 ≤ length out.old }
-    ensures { Placed out.old out.new at (label.now ++ decimal n) (length label.now + 10) result }
-{
-    let after_label = put_bytes(out, at, label);
-    put_digits(out, after_label, n, 10)
-}
-
-fn put_words(out: &mut [u8], at: usize, words: &[u32]) -> usize
-    requires { at + 11 * length words.now ≤ length out.old }
-    ensures { Placed out.old out.new at (spaced words.now) (11 * length words.now) result }
-{
-    let mut p = at;
-    let mut i = 0;
-    while i < words.len() {
-        p = put_labelled(out, p, b" ", words[i]);
-        i += 1;
+    fn put_words(&mut self, name: &str, words: &[u32])
+        requires { self.old.at + length name.now + 11 * length words.now + 1 ≤ length self.old.out.now }
+        ensures { Puts self.old self.new (name.now ++ spaced words.now ++ newline) (length name.now + 11 * length words.now + 1) }
+    {
+        self.put(name);
+        self.put_numbers(words);
+        self.put("\n");
     }
-    p
 }
 
-fn put_words_line(out: &mut [u8], at: usize, name: &[u8], words: &[u32]) -> usize
-    requires { at + length name.now + 11 * length words.now + 1 ≤ length out.old }
-    ensures { Placed out.old out.new at (name.now ++ spaced words.now ++ newline) (length name.now + 11 * length words.now + 1) result }
-{
-    let after_name = put_bytes(out, at, name);
-    let after_words = put_words(out, after_name, words);
-    put_bytes(out, after_words, b"\n")
-}
-
-fn put_ok(out: &mut [u8], top: u32, objects: u32, blocks: u32) -> usize
-    requires { 55 ≤ length out.old }
-    ensures { Placed out.old out.new 0 (ok_line (record { top = top; objects = objects; blocks = blocks })) 55 result }
-{
-    let a = put_labelled(out, 0, b"ok top ", top);
-    let b = put_labelled(out, a, b" objects ", objects);
-    let c = put_labelled(out, b, b" blocks ", blocks);
-    put_bytes(out, c, b"\n")
-}
-
-// The line of a refusal, from the buffer's start.
+// The line of a refusal, from the buffer's start. By number and place, and not by the enum: it is promised for any two numbers.
 pub fn put_refused(out: &mut [u8], number: u32, place: u32) -> usize
     requires { 33 ≤ length out.old }
     ensures { Placed out.old out.new 0 (refused_line number place) 33 result }
 {
-    let a = put_labelled(out, 0, b"refused ", number);
-    let b = put_labelled(out, a, b" at ", place);
-    put_bytes(out, b, b"\n")
+    let mut line = Line { out, at: 0 };
+    line.put("refused ");
+    line.put_number(number);
+    line.put(" at ");
+    line.put_number(place);
+    line.put("\n");
+    line.at
 }
 
-// The three lines of a collection, from the buffer's start: the heap's first `top` words, and every root.
+// The three lines of a collection, from the buffer's start: the heap's first `top` words, and every root. The three numbers come by
+// themselves, as the line names them: a type for them would say no more.
 pub fn put_collected(
     out: &mut [u8],
     top: u32,
@@ -99,7 +82,15 @@ pub fn put_collected(
     requires { (66 + 11 * top + 11 * length roots.now ≤ length out.old) × (top ≤ length heap.now) }
     ensures { Placed out.old out.new 0 (lines (gives (record { top = top; objects = objects; blocks = blocks })) heap.now roots.now) (66 + 11 * top + 11 * length roots.now) result }
 {
-    let a = put_ok(out, top, objects, blocks);
-    let b = put_words_line(out, a, b"heap", &heap[..top as usize]);
-    put_words_line(out, b, b"roots", roots)
+    let mut line = Line { out, at: 0 };
+    line.put("ok top ");
+    line.put_number(top);
+    line.put(" objects ");
+    line.put_number(objects);
+    line.put(" blocks ");
+    line.put_number(blocks);
+    line.put("\n");
+    line.put_words("heap", &heap[..top as usize]);
+    line.put_words("roots", roots);
+    line.at
 }

@@ -10,27 +10,20 @@ mod calls;
 mod case;
 mod digest;
 mod run;
-mod say;
 
-// Runs the case that fills the buffer, or what the input still has of it.
-fn read_case<R: Read, W: Write>(input: &mut R, out: &mut W, buffer: &mut [u8]) -> io::Result<()> {
-    let n = read_full(input, buffer);
-    run::run(out, &buffer[..n])
-}
-
-// Runs the next case; false where there is none, or where one is longer than any may be.
+// Runs the next case, or what the input still has of it; false where there is none, or where one is longer than any may be.
 fn next<R: Read, W: Write>(input: &mut R, out: &mut W) -> io::Result<bool> {
     let mut length = [0u8; 4];
     if read_full(input, &mut length) < 4 {
         return Ok(false);
     }
-    let bytes = case::word(&length, 0) as usize;
     let mut space = [0u8; 65536];
-    if 65536 < bytes {
-        say::skipped(out)?;
+    let Some(buffer) = space.get_mut(..u32::from_le_bytes(length) as usize) else {
+        run::skipped(out)?;
         return Ok(false);
-    }
-    read_case(input, out, &mut space[..bytes])?;
+    };
+    let n = read_full(input, buffer);
+    run::run(out, &buffer[..n])?;
     Ok(true)
 }
 

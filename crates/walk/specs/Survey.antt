@@ -1,10 +1,15 @@
 -- The bitmaps that a walk over the objects leaves, and where it ends.
-use Rattle.std.specs.Prelude.{ℕ, ◌+◌, ◌≤◌, ◌<◌, ◌≡◌, Bool, true, false, ◌&&◌, ◌||◌, List, ltb, length}
+use Rattle.std.specs.Prelude.{ℕ, ◌+◌, ◌≤◌, ◌<◌, ◌≡◌, Bool, true, false, ◌&&◌, ◌||◌, List, ltb, length, replicate}
 use Rattle.bits.specs.Ranges.{between}
-use Rattle.meaning.specs.Limits.{heap_words}
+use Rattle.meaning.specs.Limits.{heap_words, table_entries}
+use Rattle.walk.specs.declared.Survey.{Survey}
 use Rattle.meaning.specs.Places.{marked}
 use Rattle.meaning.specs.Objects.{Object, all, bad, parse}
 use Rattle.meaning.specs.Words.{starts, live, field}
+
+-- a survey in which nothing is noted
+abbrev pub blank_survey : Survey
+blank_survey = record { headers = replicate table_entries 0; words = replicate table_entries 0; fields = replicate table_entries 0 }
 
 -- of the words below p: headers, words of marked objects, and payload words of marked records
 pub record Noted (heap : List ℕ) (m : ℕ → Bool) (p : ℕ) (headers words fields : List ℕ) : Type 0 where

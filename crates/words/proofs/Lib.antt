@@ -1,2 +1,3 @@
--- What follows from the promises of the functions.
+-- What follows from the promises of the functions, and what their proofs rest on.
+pub mod Twice
 pub mod Settled

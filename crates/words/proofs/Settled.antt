@@ -2,15 +2,16 @@
 use mathlib.Core.Path.{◌≡◌, refl, sym, ap, ◌∙◌}
 use mathlib.Core.Bool.{Bool}
 use Prim.Native.Nat.{ℕ, ◌<◌}
+use Rattle.std.proofs.Common.{Result, Ok}
 use lib.IntN.{ℤ}
-use Rattle.meaning.specs.Answers.{Answer, gives, refused}
+use Rattle.meaning.specs.Answers.{gives}
 use Rattle.meaning.specs.Values.{Value, int, nil, ref, nil_word, place_of, word_of, make}
 use Rattle.meaning.proofs.ValueWords.{ref-value, value-ref, place_half, make-read, read-make}
+use Rattle.refusals.specs.declared.Refusal.{Refusal}
+use Rattle.refusals.proofs.OneToOne.{answer_one}
 use Rattle.words.specs.Paper.{shown_value, made_word}
 use Rattle.words.specs.declared.Word.{Word}
 use Rattle.words.specs.declared.Place.{Place}
-use Rattle.words.specs.declared.Made.{Made}
-use Rattle.words.specs.declared.Made.TheVariants.{Is, Refused}
 use Rattle.words.specs.declared.Shown.{Shown}
 use Rattle.words.specs.declared.Shown.TheVariants.{Int, Nil, Ref}
 use Rattle.words.proofs.Place.at.Reads as at
@@ -44,16 +45,8 @@ shown_back (Ref p) = refl
 pub shown_value_one : (r s : Shown) → shown_value r ≡ shown_value s → r ≡ s
 shown_value_one r s e = cc (ap value_shown e, shown_back r, shown_back s)
 
-abbrev word_made : Answer ℕ → Made
-word_made (gives w) = Is (word w)
-word_made (refused n p) = Refused
-
-made_back : (m : Made) → word_made (made_word m) ≡ m
-made_back (Is w) = refl
-made_back Refused = refl
-
-pub made_word_one : (m n : Made) → made_word m ≡ made_word n → m ≡ n
-made_word_one m n e = cc (ap word_made e, made_back m, made_back n)
+pub made_word_one : (m n : Result Word Refusal) → made_word m ≡ made_word n → m ≡ n
+made_word_one = answer_one (λ w. w.0) word (λ w. refl)
 
 -- ## What each function promises of its argument and its answer
 abbrev pub At : ℕ → Place → Type 0
@@ -80,10 +73,10 @@ RefBit w r = ref-bit.Post tt (w, tt) r (w, tt)
 abbrev pub Target : Word → Place → Type 0
 Target w r = target.Post tt (w, tt) r (w, tt)
 
-abbrev pub OfInt : ℤ → Made → Type 0
+abbrev pub OfInt : ℤ → Result Word Refusal → Type 0
 OfInt v r = of-int.Post tt (v, tt) r (v, tt)
 
-abbrev pub OfPlace : Place → Made → Type 0
+abbrev pub OfPlace : Place → Result Word Refusal → Type 0
 OfPlace p r = of-place.Post tt (p, tt) r (p, tt)
 
 -- ## Two answers that meet a promise are equal
@@ -124,10 +117,10 @@ of_place_settled n r s p q = made_word_one r s (p ∙ sym q)
 made_shown : (v : Shown) (w : Word) (r : Shown) → make (shown_value v) ≡ gives w.0 → Shows w r → r ≡ v
 made_shown v w r m s = shown_value_one r v (s ∙ read-make (shown_value v) w.0 m)
 
-pub of_int-shown : (v : ℤ) (w : Word) (r : Shown) → OfInt v (Is w) → Shows w r → r ≡ Int v
+pub of_int-shown : (v : ℤ) (w : Word) (r : Shown) → OfInt v (Ok w) → Shows w r → r ≡ Int v
 of_int-shown v w r m s = made_shown (Int v) w r (sym m) s
 
-pub of_place-shown : (p : Place) (w : Word) (r : Shown) → OfPlace p (Is w) → Shows w r → r ≡ Ref p
+pub of_place-shown : (p : Place) (w : Word) (r : Shown) → OfPlace p (Ok w) → Shows w r → r ≡ Ref p
 of_place-shown p w r m s = made_shown (Ref p) w r (sym m) s
 
 pub nil-shown : (w : Word) (r : Shown) → w.0 ≡ nil_word → Shows w r → r ≡ Nil
@@ -138,11 +131,11 @@ nil-shown w r m s = made_shown Nil w r (ap gives (sym m)) s
 shown_made : (w : Word) (r : Shown) → w.0 < 4294967296 → Shows w r → make (shown_value r) ≡ gives w.0
 shown_made w r h s = rw s (make-read w.0 h)
 
-pub shown-of_int : (w : Word) (v : ℤ) (m : Made) → w.0 < 4294967296 → Shows w (Int v) → OfInt v m → m ≡ Is w
-shown-of_int w v m h s o = made_word_one m (Is w) (o ∙ shown_made w (Int v) h s)
+pub shown-of_int : (w : Word) (v : ℤ) (m : Result Word Refusal) → w.0 < 4294967296 → Shows w (Int v) → OfInt v m → m ≡ Ok w
+shown-of_int w v m h s o = made_word_one m (Ok w) (o ∙ shown_made w (Int v) h s)
 
-pub shown-of_place : (w : Word) (p : Place) (m : Made) → w.0 < 4294967296 → Shows w (Ref p) → OfPlace p m → m ≡ Is w
-shown-of_place w p m h s o = made_word_one m (Is w) (o ∙ shown_made w (Ref p) h s)
+pub shown-of_place : (w : Word) (p : Place) (m : Result Word Refusal) → w.0 < 4294967296 → Shows w (Ref p) → OfPlace p m → m ≡ Ok w
+shown-of_place w p m h s o = made_word_one m (Ok w) (o ∙ shown_made w (Ref p) h s)
 
 pub shown-nil : (w : Word) → w.0 < 4294967296 → Shows w Nil → w.0 ≡ nil_word
 unfolding make word_of

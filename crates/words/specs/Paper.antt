@@ -1,9 +1,10 @@
 -- What the code's answers stand for.
-use Rattle.std.specs.Prelude.{ℕ}
-use Rattle.meaning.specs.Answers.{Answer, gives, refused}
+use Rattle.std.specs.Prelude.{ℕ, Result}
+use Rattle.meaning.specs.Answers.{Answer}
 use Rattle.meaning.specs.Values.{Value, int, nil, ref}
-use Rattle.words.specs.declared.Made.{Made}
-use Rattle.words.specs.declared.Made.TheVariants.{Is, Refused}
+use Rattle.refusals.specs.Paper.{answer_of}
+use Rattle.refusals.specs.declared.Refusal.{Refusal}
+use Rattle.words.specs.declared.Word.{Word}
 use Rattle.words.specs.declared.Shown.{Shown}
 use Rattle.words.specs.declared.Shown.TheVariants.{Int, Nil, Ref}
 
@@ -14,6 +15,5 @@ shown_value Nil = nil
 shown_value (Ref p) = ref p.0
 
 -- the word that is made, or the refusal
-abbrev pub made_word : Made → Answer ℕ
-made_word (Is w) = gives w.0
-made_word Refused = refused 10 0
+abbrev pub made_word : Result Word Refusal → Answer ℕ
+made_word = answer_of (λ w. w.0)

@@ -1,33 +1,30 @@
 // The value word: a small integer, nil or a reference in 32 bits. It is made and read here alone.
 #![tactic(auto)]
 
-ghost use Rattle.std.specs.Prelude.{◌≡◌, cond, ◌/◌};
-ghost use Rattle.meaning.specs.Values.{int, ref, is_ref, value_of, make};
+ghost use Rattle.std.specs.Prelude.{◌≡◌, ◌≤◌, cond, ◌/◌};
+ghost use Rattle.meaning.specs.Values.{int, ref, is_ref, last_place, ref_to, value_of, make};
 ghost use Rattle.words.specs.Paper.{shown_value, made_word};
 
+use refusals::Refusal;
+
 // A word of the heap or of the roots: a small integer, nil, or a reference.
-#[derive(Clone, Copy)]
+#[derive(Clone, Copy, Debug, PartialEq, Eq)]
 pub struct Word(u32);
 
 // A word's number in the heap. Its own type, so that it is never taken for a value word.
-#[derive(Clone, Copy)]
+#[derive(Clone, Copy, Debug, PartialEq, Eq)]
 pub struct Place(u32);
 
-// A word made, or refused (10) because the value has no word.
-#[derive(Clone, Copy)]
-pub enum Made {
-    Is(Word),
-    Refused,
-}
-
 // What a word stands for.
-#[derive(Clone, Copy)]
+#[derive(Clone, Copy, Debug, PartialEq, Eq)]
 pub enum Shown {
     Int(i32),
     Nil,
     Ref(Place),
 }
 
+// `at` and `number`, and `from_bits` and `bits` below, say which way a number is meant, as `f32::from_bits` does; `From` would
+// not. `of_int` and `of_place` make a word from two sorts of numbers, and are told apart by their names as well.
 impl Place {
     // The highest place that a reference can be to; one more would be nil.
     pub const LAST: u32 = 2147483646;
@@ -67,35 +64,31 @@ impl Word {
         self.0
     }
 
-    // Even words are integers, negative from 2^31 up; the last word is nil; the others are references.
+    // Even words are twice an integer, in two's complement; the last word is nil; the others are references.
+    #[tactic(auto, using(crate::proofs::Twice::half_read), unfolding(meaning::specs::Values::value_of))]
     pub fn shown(self) -> Shown
         ensures { shown_value result ≡ value_of self.0 }
     {
-        let w = self.0;
-        if w % 2 == 0 {
-            let half = (w / 2) as i32;
-            if w < 2147483648 {
-                return Shown::Int(half);
-            }
-            return Shown::Int(half + (-2147483648));
+        if self.0 % 2 == 0 {
+            return Shown::Int(self.0.cast_signed() >> 1);
         }
-        if w == Word::NIL.0 {
+        if self == Word::NIL {
             return Shown::Nil;
         }
-        Shown::Ref(Place((w - 1) / 2))
+        Shown::Ref(self.target())
     }
 
     pub fn is_ref(self) -> bool
         ensures { result ≡ is_ref self.0 }
     {
-        (self.0 % 2 == 1) & (self.0 != Word::NIL.0)
+        (self.0 % 2 == 1) & (self != Word::NIL)
     }
 
     // 1 for a reference, else 0: without a branch, for loops over many words.
     pub fn ref_bit(self) -> u64
         ensures { result ≡ cond (is_ref self.0) 1 0 }
     {
-        ((self.0 % 2) as u64) & ((self.0 != Word::NIL.0) as u64)
+        u64::from(self.is_ref())
     }
 
     // The place that a reference is to.
@@ -106,28 +99,32 @@ impl Word {
     }
 
     // The word of an integer, refused outside LEAST to GREATEST.
-    pub fn of_int(v: i32) -> Made
+    #[tactic(auto, using(crate::proofs::Twice::twice_word), unfolding(meaning::specs::Values::make))]
+    pub fn of_int(v: i32) -> Result<Word, Refusal>
         ensures { made_word result ≡ make (int v) }
     {
-        let has_word = (Word::LEAST <= v) & (v <= Word::GREATEST);
-        if !has_word {
-            return Made::Refused;
+        if !(Word::LEAST..=Word::GREATEST).contains(&v) {
+            return Err(Refusal::OutOfRange);
         }
-        if v < 0 {
-            let below = (-1 - v) as u32;
-            return Made::Is(Word(4294967294 - 2 * below));
-        }
-        Made::Is(Word(2 * (v as u32)))
+        Ok(Word((2 * v).cast_unsigned()))
+    }
+
+    // The word of a reference to a place that has one.
+    pub fn reference(p: Place) -> Word
+        requires { p.0 ≤ last_place }
+        ensures { result.0 ≡ ref_to p.0 }
+    {
+        Word(2 * p.0 + 1)
     }
 
     // The word of a reference to a place, refused above the last place.
-    pub fn of_place(p: Place) -> Made
+    #[tactic(auto, unfolding(meaning::specs::Values::make, meaning::specs::Values::word_of))]
+    pub fn of_place(p: Place) -> Result<Word, Refusal>
         ensures { made_word result ≡ make (ref p.0) }
     {
-        let number = p.0;
-        if Place::LAST < number {
-            return Made::Refused;
+        if Place::LAST < p.0 {
+            return Err(Refusal::OutOfRange);
         }
-        Made::Is(Word(2 * number + 1))
+        Ok(Word::reference(p))
     }
 }

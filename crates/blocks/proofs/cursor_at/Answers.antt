@@ -7,9 +7,6 @@ use Rattle.meaning.specs.Places.{marked}
 use Rattle.meaning.proofs.Counting.{below-few}
 use Rattle.blocks.proofs.cursor_at.Goals as goal
 
-pub returns-then-t-next : goal.returns-then-t-next
-returns-then-t-next c = c.requires.1 c.if-t-next.true
-
 pub overflow_mul-t : goal.overflow_mul-t
 overflow_mul-t c = let live = c.args.live.now in
     omega (arith, below-few (marked live) (block_words * length live))

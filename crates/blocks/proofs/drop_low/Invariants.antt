@@ -1,10 +1,6 @@
--- `blocks::drop_low` meets its contract. The i lowest set bits are dropped. Assumes nothing.
-use Prim.Native.Nat.{◌≤◌, ◌-◌}
+-- `blocks::drop_low` meets its contract. As many of the lowest set bits are dropped as there were turns. Assumes nothing.
 use Rattle.blocks.specs.Cursors.{Dropped}
 use Rattle.blocks.proofs.drop_low.Given as goal
 
-abbrev pub invariant-loop-i : goal.invariant-loop-i
-invariant-loop-i l = Dropped l.word l.i l.rest × (l.i ≤ l.n)
-
-abbrev pub decreases-loop-i : goal.decreases-loop-i
-decreases-loop-i l = l.n - l.i
+abbrev pub invariant-loop : goal.invariant-loop
+invariant-loop l = Dropped l.word l.counter l.rest

@@ -14,9 +14,6 @@ use Rattle.blocks.proofs.move_block.Goals.{After-run_length-k, Else-rest-eq0, Th
 pub block_end-end-requires : goal.block_end-end-requires
 block_end-end-requires c = (movable-few _ _ _ c.requires.0, c.requires.1)
 
-pub overflow_mul-j : goal.overflow_mul-j
-overflow_mul-j c = omega (arith, movable-few _ _ _ c.requires.0, c.requires.1)
-
 pub loop-j-init : goal.loop-j-init
 loop-j-init c = moving_start _ _ _ _ _ c.requires.1 c.requires.2
 
@@ -46,9 +43,6 @@ module _ (c : Else-rest-eq0) where
   bit : (count_trailing_zeros block_words c.loop-j.rest < block_words) × (bit_set c.loop-j.rest (count_trailing_zeros block_words c.loop-j.rest) ≡ true)
   bit = moving-bit _ _ _ _ c.requires.0 _ _ _ _ (omega arith) c.loop-j.invariant c.if-rest-eq0.false
 
-pub overflow_cast-z : goal.overflow_cast-z
-overflow_cast-z c = let b = bit (goal.at.overflow_cast-z c).Else-rest-eq0 in omega arith
-
 pub run_length-k-requires : goal.run_length-k-requires
 run_length-k-requires c = let b = bit (goal.at.run_length-k-requires c).Else-rest-eq0 in (b.0, b.1, omega arith)
 
@@ -60,34 +54,19 @@ module _ (c : After-run_length-k) where
   copied =
       moving-run _ _ _ _ c.requires.0 _ _ _ _ (omega arith) c.loop-j.invariant _ _ (omega arith) c.if-rest-eq0.false c.run_length-k.ensures
 
-pub overflow_mul-block : goal.overflow_mul-block
-overflow_mul-block c = let w = copied (goal.at.overflow_mul-block c).After-run_length-k in omega arith
-
 pub overflow_add-block-else-rest-eq0 : goal.overflow_add-block-else-rest-eq0
 overflow_add-block-else-rest-eq0 c = let w = copied (goal.at.overflow_add-block-else-rest-eq0 c).After-run_length-k in omega arith
 
 pub move_words-requires : goal.move_words-requires
 move_words-requires c = let w = copied (goal.at.move_words-requires c).After-run_length-k in (c.run_length-k.ensures.some, w.source, w.up)
 
-pub overflow_add-z : goal.overflow_add-z
-overflow_add-z c = let w = copied (goal.at.overflow_add-z c).After-run_length-k in omega arith
-
 pub left_from-rest-requires : goal.left_from-rest-requires
 left_from-rest-requires c = let w = copied (goal.at.left_from-rest-requires c).After-run_length-k in (omega (arith, c.run_length-k.ensures.some), w.within)
-
-pub overflow_add-j : goal.overflow_add-j
-overflow_add-j c = let w = copied (goal.at.overflow_add-j c).After-run_length-k in omega arith
-
-pub loop-j-smaller : goal.loop-j-smaller
-loop-j-smaller c = omega (arith, c.run_length-k.ensures.some, c.run_length-k.ensures.few)
 
 pub loop-j-preserved : goal.loop-j-preserved
 loop-j-preserved c =
     let m = c.move_words in
     (copied (goal.at.loop-j-preserved c).After-run_length-k).next _ _ m.auto.heap m.ensures c.left_from-rest.ensures
-
-pub shape_of-heap : goal.shape_of-heap
-shape_of-heap c = c.loop-j.invariant.long
 
 pub returns : goal.returns
 returns c =

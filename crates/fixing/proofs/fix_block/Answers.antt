@@ -1,51 +1,37 @@
--- `fixing::fix_block` meets its contract. Assumes nothing.
-use borrow.Author.Rules.{rules}
-use Prim.Native.Nat.{◌+◌, ◌*◌}
-use lib.Count.{count_trailing_zeros}
+-- `fixing::fix_block` meets its contract: the references at the bits so far are sent on. Assumes nothing.
+use Rattle.std.proofs.Common.{◌≡◌, ℕ, Bool, ◌+◌, ◌*◌, ◌/◌, ◌%◌, ◌<◌, ◌&&◌, length, length-set, eqb, ap, sym}
+use mathlib.Core.Bool.{and-false}
+use Rattle.std.proofs.lemmas.List.Elements.{All-tail}
 use Rattle.meaning.specs.Limits.{block_words}
-use Rattle.bits.proofs.LowestBit.{lowest_less}
-use Rattle.fixing.specs.Fixable.{RefersWithin}
-use Rattle.fixing.proofs.RefsSentOn.{sending_start, sending-at, sending-next, sending_end}
+use Rattle.meaning.specs.Places.{bit_set, is_in}
+use Rattle.bits.specs.SetBits.{set_places}
+use Rattle.bits.proofs.SetPlaces.{Turn, set_turn, set_end}
+use Rattle.fixing.proofs.SentOn.{fixed_none, fixed_same, next_refers, next_sent, refs_in_heap}
 use Rattle.fixing.proofs.fix_block.Goals as goal
-use Rattle.fixing.proofs.fix_block.Goals.{In-loop-m}
+use Rattle.fixing.proofs.fix_block.Goals.{In-Some}
 
-pub loop-m-init : goal.loop-m-init
-loop-m-init c = sending_start _ _ _ _ c.ranges.word.fits
+turn : (c : In-Some) → Turn (bit_set c.args.word) block_words c.loop-i.yielded c.in-Some.i
+turn c = set_turn c.args.word (cc) _ _ c.loop-i.yielded_by _ _ c.in-Some.ensures.steps
 
--- the lowest bit left is at a reference that can be sent on
-next : (c : In-loop-m) → RefersWithin c.args.live.now c.loop-m.heap (block_words * c.args.b + count_trailing_zeros block_words c.loop-m.m)
-next c = sending-at _ _ _ _ _ _ c.loop-m-test.true c.loop-m.invariant _ _ c.requires
-
-pub overflow_mul-i : goal.overflow_mul-i
-overflow_mul-i c = let n = next (goal.at.overflow_mul-i c).In-loop-m in search rules
-
-pub overflow_cast-i : goal.overflow_cast-i
-overflow_cast-i c = let n = next (goal.at.overflow_cast-i c).In-loop-m in search rules
-
-pub overflow_add-i : goal.overflow_add-i
-overflow_add-i c = let n = next (goal.at.overflow_add-i c).In-loop-m in search rules
-
-pub offset_bounds-heap-i : goal.offset_bounds-heap-i
-offset_bounds-heap-i c = let n = next (goal.at.offset_bounds-heap-i c).In-loop-m in search rules
-
-pub bounds-heap-i : goal.bounds-heap-i
-bounds-heap-i c = let n = next (goal.at.bounds-heap-i c).In-loop-m in search rules
+pub loop-i-init : goal.loop-i-init
+loop-i-init c =
+    let start : c.into_iter-i-iterator.result ≡ set_places c.args.word = cc in record {
+      in_heap = rw start (refs_in_heap _ _ _ _ c.requires);
+      sent = fixed_none _ _ _ (λ q. and-false _);
+    }
 
 pub sent_on-requires : goal.sent_on-requires
-sent_on-requires c = let n = next (goal.at.sent_on-requires c).In-loop-m in
-    (c.requires.exact, n.holds_ref, n.target)
+sent_on-requires c = let n = next_refers _ _ _ _ (turn (goal.at.sent_on-requires c).In-Some) _ _ _ c.loop-i.invariant.sent _ c.requires in (n.holds_ref, n.target)
 
-pub offset_bounds-heap-i-in-loop-m : goal.offset_bounds-heap-i-in-loop-m
-offset_bounds-heap-i-in-loop-m c = let n = next (goal.at.offset_bounds-heap-i-in-loop-m c).In-loop-m in search rules
-
-pub bounds-heap-i-in-loop-m : goal.bounds-heap-i-in-loop-m
-bounds-heap-i-in-loop-m c = let n = next (goal.at.bounds-heap-i-in-loop-m c).In-loop-m in search rules
-
-pub loop-m-smaller : goal.loop-m-smaller
-loop-m-smaller c = lowest_less _ c.loop-m-test.true
-
-pub loop-m-preserved : goal.loop-m-preserved
-loop-m-preserved c = sending-next _ _ _ _ _ _ c.loop-m-test.true c.loop-m.invariant _ (next (goal.at.loop-m-preserved c).In-loop-m).in_heap c.sent_on.ensures
+pub loop-i-preserved : goal.loop-i-preserved
+loop-i-preserved c =
+    let t = turn (goal.at.loop-i-preserved c).In-Some in
+    let n = next_refers _ _ _ _ t _ _ _ c.loop-i.invariant.sent _ c.requires in record {
+      in_heap = rw length-set (All-tail (λ (i : ℕ). block_words * c.args.b + i < length c.loop-i.heap) c.in-Some.i _ (rw c.in-Some.ensures.steps at c.loop-i.invariant.in_heap));
+      sent = next_sent _ _ _ _ t _ _ _ c.loop-i.invariant.sent _ n.in_heap c.sent_on.ensures;
+    }
 
 pub returns : goal.returns
-returns c = sending_end _ _ _ _ _ (rw c.loop-m-test.false at c.loop-m.invariant)
+returns c =
+    let all : (i : ℕ) → is_in i c.loop-i.yielded ≡ bit_set c.args.word i = set_end c.args.word (cc) _ _ c.loop-i.yielded_by c.in-None.ensures.steps.0 c.ranges.word.fits in
+    fixed_same _ _ _ _ _ (λ q. ap (λ (t : Bool). eqb (q / block_words) c.args.b && t) (sym (all (q % block_words)))) c.loop-i.invariant.sent

@@ -1,10 +1,14 @@
--- `fixing::fix_block` meets its contract. Assumes nothing.
+-- `fixing::fix_block` meets its contract: the references at the bits so far are sent on. Assumes nothing.
+use Rattle.std.proofs.Common.{ℕ, ◌+◌, ◌*◌, ◌<◌, length}
+use Rattle.std.specs.List.{All}
+use Rattle.meaning.specs.Limits.{block_words}
 use Rattle.meaning.specs.Places.{below, marked}
-use Rattle.fixing.proofs.RefsSentOn.{SendingBits}
+use Rattle.meaning.proofs.CollectedHeap.{Fixed}
+use Rattle.fixing.proofs.SentOn.{listed}
 use Rattle.fixing.proofs.fix_block.Given as goal
 
-abbrev pub invariant-loop-m : goal.invariant-loop-m
-invariant-loop-m l = SendingBits l.b l.word (below (marked l.live)) l.initial.heap l.m l.heap
-
-abbrev pub decreases-loop-m : goal.decreases-loop-m
-decreases-loop-m l = l.m
+abbrev pub invariant-loop-i : goal.invariant-loop-i
+invariant-loop-i l = record {
+  in_heap : All (λ (i : ℕ). block_words * l.b + i < length l.heap) l.i-iterator;
+  sent : Fixed (listed l.b l.yielded) (below (marked l.tables.live.now)) l.initial.heap l.heap;
+}

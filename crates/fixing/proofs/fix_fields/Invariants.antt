@@ -1,13 +1,8 @@
--- `fixing::fix_fields` meets its contract. Assumes nothing.
-use Prim.Native.Nat.{◌-◌, ◌*◌}
-use lib.ListN.{length}
-use Rattle.meaning.specs.Limits.{block_words}
+-- `fixing::fix_fields` meets its contract: the references of the blocks so far are sent on. Assumes nothing.
 use Rattle.meaning.specs.Places.{below, marked}
-use Rattle.fixing.proofs.RefsSentOn.{SentOnBelow}
+use Rattle.meaning.proofs.CollectedHeap.{Fixed}
+use Rattle.fixing.proofs.SentOn.{in_blocks}
 use Rattle.fixing.proofs.fix_fields.Given as goal
 
 abbrev pub invariant-loop-b : goal.invariant-loop-b
-invariant-loop-b l = SentOnBelow (marked l.refs) (below (marked l.live)) l.initial.heap (block_words * l.b) l.heap
-
-abbrev pub decreases-loop-b : goal.decreases-loop-b
-decreases-loop-b l = length l.live - l.b
+invariant-loop-b l = Fixed (in_blocks l.refs l.b) (below (marked l.tables.live.now)) l.initial.heap l.heap

@@ -1,21 +1,12 @@
--- `fixing::fix_roots` meets its contract. Assumes nothing.
-use mathlib.Core.Path.{ap, ◌∙◌}
-use native.Mathlib.Omega.{arith}
+-- `fixing::fix_roots` meets its contract: the roots so far are sent on. Assumes nothing.
+use Rattle.std.proofs.Common.{arith}
+use Rattle.std.proofs.lemmas.List.{get_or_default}
+use Rattle.std.proofs.lemmas.List.Edits.{map_over_more}
 use Rattle.meaning.specs.Places.{below, marked}
 use Rattle.meaning.specs.Slide.{fix_word}
-use Rattle.fixing.proofs.RewrittenInPlace.{rewritten_next, rewritten_map}
 use Rattle.fixing.proofs.fix_roots.Goals as goal
 
-pub fix_root-requires : goal.fix_root-requires
-fix_root-requires c = let p = c.requires in
-    let l = c.loop-i in
-    let same = l.invariant.rest l.i (omega arith) in
-    (p.exact, rw same (p.targets l.i (omega arith)))
-
-pub loop-i-preserved : goal.loop-i-preserved
-loop-i-preserved c = let l = c.loop-i in
-    let live = c.args.live.now in
-    rewritten_next _ _ _ _ _ (omega arith) (c.fix_root.ensures ∙ ap (fix_word (below (marked live))) (l.invariant.rest l.i (omega arith))) l.invariant
-
-pub returns : goal.returns
-returns c = rewritten_map _ _ _ _ (omega arith) c.loop-i.invariant
+pub loop-word-preserved : goal.loop-word-preserved
+loop-word-preserved c = let l = c.loop-word in
+    rw c.fix_root.ensures
+    (map_over_more (fix_word (below (marked c.args.tables.live.now))) _ _ _ _ (omega arith) l.invariant (get_or_default l.roots l.word-index 0 _ (omega arith)))

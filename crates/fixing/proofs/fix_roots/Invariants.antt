@@ -1,13 +1,8 @@
--- `fixing::fix_roots` meets its contract. Assumes nothing.
-use Prim.Native.Nat.{◌-◌}
-use lib.ListN.{length, get_or}
+-- `fixing::fix_roots` meets its contract: the roots so far are sent on. Assumes nothing.
+use Rattle.std.proofs.Common.{◌≡◌, ◌++◌, map, take, drop}
 use Rattle.meaning.specs.Places.{below, marked}
 use Rattle.meaning.specs.Slide.{fix_word}
-use Rattle.fixing.proofs.RewrittenInPlace.{RewrittenBelow}
 use Rattle.fixing.proofs.fix_roots.Given as goal
 
-abbrev pub invariant-loop-i : goal.invariant-loop-i
-invariant-loop-i l = RewrittenBelow (λ k. fix_word (below (marked l.live)) (get_or l.initial.roots k 0)) l.initial.roots l.i l.roots
-
-abbrev pub decreases-loop-i : goal.decreases-loop-i
-decreases-loop-i l = length l.initial.roots - l.i
+abbrev pub invariant-loop-word : goal.invariant-loop-word
+invariant-loop-word l = l.roots ≡ map (fix_word (below (marked l.tables.live.now))) (take l.word-index l.initial.roots) ++ drop l.word-index l.initial.roots

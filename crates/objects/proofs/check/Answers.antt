@@ -1,37 +1,35 @@
 -- `check` meets its contract: refusal 1, then what the checks 2 to 5 say. Assumes nothing.
-use mathlib.Core.Path.{◌≡◌, sym, ◌∙◌}
-use mathlib.Core.Bool.{true, false}
-use Rattle.meaning.specs.Collect.{sizes_fit, checked, check}
-use Rattle.objects.proofs.Sizes.{sizes}
-use Rattle.objects.proofs.Judging.{blank-start, check-answered}
+use mathlib.Core.Path.{refl}
+use Rattle.std.proofs.lemmas.Result.{err_from_is_err_and, MatchResult-at_ok, MatchResult-at_err}
+use Rattle.meaning.specs.Collect.{checked, check}
+use Rattle.objects.proofs.Judging.{blank-start, refusal-said, sound-counted}
 use Rattle.objects.proofs.check.Goals as goal
-use Rattle.objects.proofs.check.Goals.{Else-not-sizes_fit}
 
--- whether the sizes fit is what decides
-fit : (c : Else-not-sizes_fit) → sizes_fit c.args.heap.now c.args.top c.args.roots.now c.args.marks.now ≡ true
-fit c = sym c.sizes_fit.ensures ∙ c.if-not-sizes_fit.false
-
-pub returns-then-not-sizes_fit : goal.returns-then-not-sizes_fit
+pub returns-in_err-given : goal.returns-in_err-given
 unfolding check checked
-returns-then-not-sizes_fit c =
-    let unfit : sizes_fit c.args.heap.now c.args.top c.args.roots.now c.args.marks.now ≡ false = sym c.sizes_fit.ensures ∙ c.if-not-sizes_fit.true in
-    rw unfit
+returns-in_err-given c =
+    let p = err_from_is_err_and c.from_residual.result c.from_residual.ensures.1 in
+    let (is, unfit) = MatchResult-at_err _ _ c.in_err-given.field-0.0 c.in_err-given.was c.of.ensures in
+    rw (p.1, p.2, is, unfit) refl
 
-pub examine-judged-requires : goal.examine-judged-requires
-examine-judged-requires c =
-    let a = c.args in
-    let f = fit (goal.at.examine-judged-requires c).Else-not-sizes_fit in
-    (f, blank-start a.heap.now a.top a.roots.now a.marks.now f)
+pub examine-requires : goal.examine-requires
+examine-requires c =
+    let g = c.in_ok-given.given in
+    rw c.blank-survey.ensures (blank-start g.heap.now g.top g.roots.now g.marks.now g.fit)
 
-pub answer-requires : goal.answer-requires
-answer-requires c =
-    let a = c.args in
-    (sizes a.heap.now a.top a.roots.now a.marks.now (fit (goal.at.answer-requires c).Else-not-sizes_fit)).few
+pub returns-in_err-examine : goal.returns-in_err-examine
+returns-in_err-examine c =
+    let g = c.in_ok-given.given in
+    let same = MatchResult-at_ok _ _ g c.in_ok-given.was c.of.ensures in
+    let p = err_from_is_err_and c.from_residual-in_err-examine.result c.from_residual-in_err-examine.ensures.1 in
+    rw (p.1, p.2, ← same.0, ← same.1, ← same.2, ← same.3)
+    (refusal-said g.heap.now g.top g.roots.now g.marks.now c.examine.new.survey c.in_err-examine.field-0.0 g.fit (rw c.in_err-examine.was at c.examine.ensures))
 
 pub returns : goal.returns
 returns c =
-    let a = c.args in
-    let done = c.examine-judged in
-    let n = done.new in
-    c.answer.ensures
-    ∙ check-answered a.heap.now a.top a.roots.now a.marks.now n.headers n.words n.refs done.result (fit (goal.at.returns c).Else-not-sizes_fit) done.ensures
+    let g = c.in_ok-given.given in
+    let s = c.examine.new.survey in
+    let same = MatchResult-at_ok _ _ g c.in_ok-given.was c.of.ensures in
+    let (os, is-sound, survey) = rw c.in_ok-examine.was at c.examine.ensures in
+    rw (← same.0, ← same.1, ← same.2, ← same.3)
+    (sound-counted g.heap.now g.top g.roots.now g.marks.now s.headers s.words s.fields os c.count.result g.fit is-sound survey (rw same.3 c.count.ensures))

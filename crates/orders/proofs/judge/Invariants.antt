@@ -1,11 +1,6 @@
 -- `orders::judge` meets its contract. No position before i breaks, and the table has the steps done. Assumes nothing.
-use Prim.Native.Nat.{◌-◌}
-use lib.ListN.{length}
 use Rattle.orders.proofs.Judging.{Judging}
 use Rattle.orders.proofs.judge.Given as goal
 
 abbrev pub invariant-loop-i : goal.invariant-loop-i
 invariant-loop-i l = Judging l.offsets l.total l.order l.done l.i
-
-abbrev pub decreases-loop-i : goal.decreases-loop-i
-decreases-loop-i l = length l.order - l.i

@@ -1,14 +1,7 @@
 -- `runs::move_few` meets its contract. Assumes nothing.
 use native.Mathlib.Omega.{arith}
-use lib.ListN.{length-set}
 use Rattle.runs.proofs.CopiedRuns.{landed_few}
 use Rattle.runs.proofs.move_few.Goals as goal
-
-pub bounds-heap-to-2 : goal.bounds-heap-to-2
-bounds-heap-to-2 c = simp length-set (omega arith)
-
-pub bounds-heap-to-3 : goal.bounds-heap-to-3
-bounds-heap-to-3 c = simp length-set (omega arith)
 
 pub returns : goal.returns
 returns c = landed_few c.args.heap.now c.args.from c.args.to c.args.count c.requires.0 c.requires.1 c.requires.3 (omega arith)

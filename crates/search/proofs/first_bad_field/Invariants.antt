@@ -1,13 +1,9 @@
 -- `search::first_bad_field` meets its contract. The loop has found no bad field below the block. Assumes nothing.
-use Prim.Native.Nat.{◌≤◌, ◌-◌, ◌*◌}
-use lib.ListN.{length}
+use Prim.Native.Nat.{◌*◌}
 use Rattle.meaning.specs.Limits.{block_words}
 use Rattle.search.specs.Search.{bad_field}
 use Rattle.search.proofs.FirstPlace.{NoneBelow}
 use Rattle.search.proofs.first_bad_field.Given as goal
 
 abbrev pub invariant-loop-block : goal.invariant-loop-block
-invariant-loop-block l = (l.block ≤ length l.marks) × NoneBelow (bad_field l.heap l.marks l.refs) (block_words * l.block)
-
-abbrev pub decreases-loop-block : goal.decreases-loop-block
-decreases-loop-block l = length l.marks - l.block
+invariant-loop-block l = NoneBelow (bad_field l.heap l.marks l.refs) (block_words * l.block)

@@ -1,12 +1,13 @@
--- `search::first_bad_in` meets its contract. Assumes nothing.
+-- `search::first_bad_in` meets its contract: no bit passed is bad. Assumes nothing.
 use Prim.Native.Nat.{ℕ, ◌+◌, ◌*◌}
+use Rattle.std.specs.List.{All}
 use Rattle.meaning.specs.Limits.{block_words}
-use Rattle.search.specs.Search.{lost_at}
-use Rattle.search.proofs.PassingBits.{Searching}
+use Rattle.search.specs.Search.{HoldsRef, lost_at}
+use Rattle.search.proofs.PassingBits.{NoneOf}
 use Rattle.search.proofs.first_bad_in.Given as goal
 
-abbrev pub invariant-loop-left : goal.invariant-loop-left
-invariant-loop-left l = Searching block_words l.word (λ (i : ℕ). lost_at l.heap l.marks (block_words * l.b + i)) l.left
-
-abbrev pub decreases-loop-left : goal.decreases-loop-left
-decreases-loop-left l = l.left
+abbrev pub invariant-loop-i : goal.invariant-loop-i
+invariant-loop-i l = record {
+  hold_refs : All (λ (i : ℕ). HoldsRef l.heap (block_words * l.b + i)) l.i-iterator;
+  none : NoneOf (λ (i : ℕ). lost_at l.heap l.marks (block_words * l.b + i)) l.yielded;
+}

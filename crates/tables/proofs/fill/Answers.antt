@@ -1,7 +1,8 @@
 -- `tables::fill` meets its contract. Assumes nothing.
 use native.Mathlib.Omega.{arith}
-use mathlib.Core.Path.{refl}
+use mathlib.Core.Path.{◌≡◌, refl}
 use Prim.Native.Nat.{◌*◌}
+use lib.ListN.{length}
 use Rattle.meaning.specs.Limits.{block_words}
 use Rattle.meaning.specs.Places.{marked}
 use Rattle.meaning.proofs.Counting.{below-few}
@@ -18,14 +19,7 @@ pub overflow_add-sum : goal.overflow_add-sum
 overflow_add-sum c = omega (arith, below-few (marked c.args.words.now) (block_words * c.loop-b.b))
 
 pub loop-b-preserved : goal.loop-b-preserved
-loop-b-preserved c = let l = c.loop-b in
-    filling-next _ _ _ _ _ _ _ (omega arith) (c.type_inv.live l.b).fits c.ones.ensures l.invariant
-
-pub shape_of-live : goal.shape_of-live
-shape_of-live c = c.loop-b.invariant.live-length
-
-pub shape_of-offsets : goal.shape_of-offsets
-shape_of-offsets c = omega arith
+loop-b-preserved c = filling-next _ _ _ _ _ _ _ (omega arith) (c.fits-words c.loop-b.b) c.ones.ensures c.loop-b.invariant
 
 pub returns : goal.returns
-returns c = filling-end _ _ _ _ _ _ (omega arith) c.loop-b.invariant
+returns c = let e : c.loop-b.b ≡ length c.args.live.now = omega arith in filling-end _ _ _ _ _ (rw e at c.loop-b.invariant)

@@ -1,11 +1,7 @@
 -- `tables::fill` meets its contract. Assumes nothing.
-use Prim.Native.Nat.{◌-◌}
 use lib.ListN.{length}
 use Rattle.tables.proofs.Filling.{Filling}
 use Rattle.tables.proofs.fill.Given as goal
 
 abbrev pub invariant-loop-b : goal.invariant-loop-b
 invariant-loop-b l = Filling l.words (length l.initial.live) l.live l.offsets l.sum l.b
-
-abbrev pub decreases-loop-b : goal.decreases-loop-b
-decreases-loop-b l = length l.initial.live - l.b

@@ -1,11 +1,6 @@
 -- `tables::new_to_old` meets its contract. Assumes nothing.
-use Prim.Native.Nat.{◌-◌}
-use lib.ListN.{length}
 use Rattle.tables.proofs.Searching.{Searching}
 use Rattle.tables.proofs.new_to_old.Given as goal
 
 abbrev pub invariant-loop-b : goal.invariant-loop-b
 invariant-loop-b l = Searching l.live l.initial.left l.left l.b
-
-abbrev pub decreases-loop-b : goal.decreases-loop-b
-decreases-loop-b l = length l.live - l.b

@@ -1,0 +1,2 @@
+-- Laws of headers that were read.
+pub mod Reading

@@ -1,0 +1,2 @@
+-- What the contracts of `headers` add to the notions of `meaning`.
+pub mod Paper

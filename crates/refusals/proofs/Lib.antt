@@ -1,0 +1,2 @@
+-- Laws of fallible answers.
+pub mod OneToOne

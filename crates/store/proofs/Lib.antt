@@ -1,2 +1,0 @@
--- What follows from the definitions, in files named after what they say.
-pub mod CallsLeave

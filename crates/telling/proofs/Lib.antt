@@ -1,2 +1,0 @@
--- Laws of what C is told.
-pub mod Saying

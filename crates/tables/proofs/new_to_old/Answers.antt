@@ -7,6 +7,7 @@ use Rattle.meaning.specs.Limits.{block_words}
 use Rattle.meaning.specs.Places.{bit_set, marked}
 use Rattle.meaning.specs.Lookups.{new_to_old}
 use Rattle.meaning.proofs.Counting.{below-zero, src-within}
+use Rattle.tables.specs.Paper.{Unfit}
 use Rattle.tables.proofs.Searching.{searching_next, searching_found, searching_end}
 use Rattle.tables.proofs.new_to_old.Goals as goal
 
@@ -14,7 +15,9 @@ pub returns-in_err-entries : goal.returns-in_err-entries
 unfolding new_to_old
 returns-in_err-entries c =
     let p = err_from_is_err_and c.from_residual.result c.from_residual.ensures.1 in
-    let (e, unfit) = c.in_err-entries.ensures in rw (p.1, p.2, e, unfit)
+    let (e, found) = c.in_err-entries.ensures in
+    let unfit : Unfit c.args.live.now c.args.offsets.now = found in
+    rw (p.1, p.2, e, unfit)
 
 pub loop-b-init : goal.loop-b-init
 loop-b-init c = omega (arith, below-zero (marked c.args.live.now))

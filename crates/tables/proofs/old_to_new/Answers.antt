@@ -8,6 +8,7 @@ use Rattle.meaning.specs.Limits.{block_words}
 use Rattle.meaning.specs.Places.{bit_set}
 use Rattle.meaning.specs.Lookups.{old_to_new}
 use Rattle.meaning.proofs.Counting.{below-few}
+use Rattle.tables.specs.Paper.{Unfit}
 use Rattle.tables.proofs.Judging.{outside, entry-too-high, bit-clear, bit-set}
 use Rattle.tables.proofs.old_to_new.Goals as goal
 
@@ -15,7 +16,9 @@ pub returns-in_err-entries : goal.returns-in_err-entries
 unfolding old_to_new
 returns-in_err-entries c =
     let p = err_from_is_err_and c.from_residual.result c.from_residual.ensures.1 in
-    let (e, unfit) = c.in_err-entries.ensures in rw (p.1, p.2, e, unfit)
+    let (e, found) = c.in_err-entries.ensures in
+    let unfit : Unfit c.args.live.now c.args.offsets.now = found in
+    rw (p.1, p.2, e, unfit)
 
 pub returns-then-branch-b : goal.returns-then-branch-b
 returns-then-branch-b c = let (e, fit) = c.in_ok-entries.ensures in

@@ -1,2 +1,3 @@
 -- What follows from the definitions, in files named after what they say.
 pub mod BirthsAre
+pub mod Put

@@ -9,7 +9,7 @@ use lib.Count.{count_trailing_zeros}
 use lib.Dec.{leb, eqb}
 use borrow.Author.Tests.{le-leb, leb-true, ne_eqb, eqb-false, not-true}
 use Rattle.meaning.specs.Places.{bit_set}
-use Rattle.meaning.proofs.Deciding.{le_or_lt, clash, and_both, both_and, same_test}
+use Rattle.meaning.proofs.Deciding.{le_or_lt, eq_or_ne, clash, and_both, both_and, same_test}
 use Rattle.meaning.proofs.Bitmaps.{bit_zero}
 use Rattle.bits.proofs.LowestBit.{lowest}
 
@@ -68,3 +68,15 @@ module _ (k word : ℕ) where
   -- where no bit is left, none is set from `at` on
   pub left_end : (m at : ℕ) → m ≡ 0 → Left m at → (i : ℕ) → at ≤ i → bit_set word i ≡ false
   left_end m at e l i h = clear_left m at i l h (ap (λ (w : ℕ). bit_set w i) e ∙ bit_zero i)
+
+  -- what is shown of bit z, of those before `at` and of clear bits holds of each bit up to z
+  pub up_to_next : (P : ℕ → Type 0) (at z m : ℕ) → Next at z m → ((i : ℕ) → i < at → P i) → ((i : ℕ) → at ≤ i → bit_set word i ≡ false → P i) → P z
+      → (i : ℕ) → i < suc z → P i
+  up_to_next P at z m n old clear here i h = ⊎_elim
+      (λ (g : at ≤ i). ⊎_elim (λ (e : i ≡ z). rw e here) (λ ne. clear i g (n.none_between i g (omega arith))) (eq_or_ne i z))
+      (λ (g : i < at). old i g)
+      (le_or_lt at i)
+
+  -- and where no bit is left, of every bit
+  pub up_to_end : (P : ℕ → Type 0) (m at : ℕ) → m ≡ 0 → Left m at → ((i : ℕ) → i < at → P i) → ((i : ℕ) → at ≤ i → bit_set word i ≡ false → P i) → (i : ℕ) → P i
+  up_to_end P m at e l old clear i = ⊎_elim (λ (g : at ≤ i). clear i g (left_end m at e l i g)) (λ (g : i < at). old i g) (le_or_lt at i)

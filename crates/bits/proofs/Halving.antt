@@ -24,23 +24,24 @@ module _ (k word n : ℕ) where
   pub halve_start : 0 < k → n < below (bit_set word) k → Halving word n 0 k
   halve_start m h = record { some = h; shifted = sym (div-one word); passed = omega (arith, below-zero (bit_set word)); room = omega arith; more = m }
 
-  module _ (rest left at width half low : ℕ) (more : 0 < half) (twice : width ≡ 2 * half) (e : low ≡ below (bit_set rest) half) (i : Halving rest left at width) where
-    -- it is one of the lower half
-    pub halve_low : left < low → Halving rest left at half
-    halve_low h = record { some = omega arith; shifted = i.shifted; passed = i.passed; room = omega (arith, i.room); more = more }
+  -- it is one of the lower half
+  pub halve_low : (rest left at width half low : ℕ) → 0 < half → half < width → low ≡ below (bit_set rest) half → left < low → Halving rest left at width
+      → Halving rest left at half
+  halve_low rest left at width half low p h e l i = record { some = omega arith; shifted = i.shifted; passed = i.passed; room = omega arith; more = p }
 
-    -- or one of the others
-    pub halve_high : low ≤ left → Halving (rest / 2 ^ half) (left - low) (at + half) half
-    halve_high h =
-        let q : below (bit_set rest) width ≡ below (bit_set rest) half + below (bit_set (rest / 2 ^ half)) half =
-        ap (below (bit_set rest)) (let z : width ≡ half + half = omega arith in z) ∙ below_shr rest half half in
-        let f : below (bit_set word) (at + half) ≡ below (bit_set word) at + below (bit_set rest) half =
-        below_shr word at half ∙ ap (λ (x : ℕ). below (bit_set word) at + below (bit_set x) half) (sym i.shifted) in
-        record { some = omega (arith, i.some); shifted = ap (λ (x : ℕ). x / 2 ^ half) i.shifted ∙ shr-shr word at half; passed = omega (arith, i.passed); room = omega (arith, i.room); more = more }
+  -- or one of the others
+  pub halve_high : (rest left at width half low : ℕ) → half < width → low ≡ below (bit_set rest) half → low ≤ left → Halving rest left at width
+      → Halving (rest / 2 ^ half) (left - low) (at + half) (width - half)
+  halve_high rest left at width half low h q l i =
+      let e : below (bit_set rest) width ≡ below (bit_set rest) half + below (bit_set (rest / 2 ^ half)) (width - half) =
+      ap (below (bit_set rest)) (let z : width ≡ half + (width - half) = omega arith in z) ∙ below_shr rest half (width - half) in
+      let f : below (bit_set word) (at + half) ≡ below (bit_set word) at + below (bit_set rest) half =
+      below_shr word at half ∙ ap (λ (x : ℕ). below (bit_set word) at + below (bit_set x) half) (sym i.shifted) in
+      record { some = omega arith; shifted = ap (λ (x : ℕ). x / 2 ^ half) i.shifted ∙ shr-shr word at half; passed = omega arith; room = omega arith; more = omega arith }
 
-  pub halve_end : (rest left at width : ℕ) → width ≡ 1 → Halving rest left at width → at ≡ src (bit_set word) k n
+  pub halve_end : (rest left at width : ℕ) → width ≤ 1 → Halving rest left at width → at ≡ src (bit_set word) k n
   halve_end rest left at width h i =
-      let e : below (bit_set rest) width ≡ rest % 2 = ap (below (bit_set rest)) h ∙ below-low rest in
+      let e : below (bit_set rest) width ≡ rest % 2 = ap (below (bit_set rest)) (let z : width ≡ 1 = omega arith in z) ∙ below-low rest in
       let f : rest % 2 ≡ bit_of word at = ap (λ (x : ℕ). x % 2) i.shifted in
       let g : below (bit_set word) at ≡ n = omega arith in
       sym (ap (src (bit_set word) k) (sym g) ∙ src_at (bit_set word) k at (omega arith) (eq-eqb (bit_of word at) 1 (omega arith)))

@@ -5,7 +5,7 @@ use mathlib.Core.Bool.{Bool, true, false, not, ◌&&◌, and-true}
 use Prim.Native.Nat.{ℕ, zero, suc, ◌+◌, ◌-◌, ◌*◌, ◌/◌, ◌%◌, ◌^◌, ◌<◌, min}
 use native.Mathlib.Nat.{pow-suc}
 use native.Mathlib.Omega.{arith}
-use lib.Bits.{bit_and, and_step, and_self}
+use lib.Bits.{bit_and, and_step, and_self, and_le_r}
 use lib.Count.{count_trailing_zeros, under}
 use lib.Dec.{eqb, eqb-suc-suc, eqb-suc-zero}
 use Rattle.meaning.specs.Places.{bit_set}
@@ -64,3 +64,6 @@ lowest (suc k) m ne h = ⊎_elim
     let half : (m - 1) / 2 ≡ m / 2 = omega arith in
     rw (trailing_step k m 1 e, and_half m, half, and_self) (lowest_odd k m e))
     (eq_or_ne (m % 2) 0)
+
+pub lowest_less : (m : ℕ) → m ≢ 0 → bit_and m (m - 1) < m
+lowest_less m ne = omega (arith, and_le_r m (m - 1))

@@ -1,5 +1,5 @@
 -- The next marked place: searched word by word, what is left of a word shifted down. Assumes nothing.
-use mathlib.Core.Path.{◌≡◌, sym, ap, ◌∙◌}
+use mathlib.Core.Path.{◌≡◌, sym, ap, ◌∙◌, subst}
 use mathlib.Core.Logic.{⊎_elim, ◌≢◌}
 use mathlib.Core.Bool.{true, false}
 use mathlib.Core.List.{List}
@@ -37,26 +37,48 @@ module _ (m : List ℕ) where
   unfolding next_set
   next_none p at h a = sym (ap (λ (ps : List ℕ). slice_get ps 0) (places_none (marked m) p (end_of m - p) (λ k g. a (p + k) (omega arith) (omega arith))))
 
+  -- what is left of the word from place at on
+  abbrev pub rest_at : ℕ → ℕ
+  rest_at at = get_or m (at / block_words) 0 / 2 ^ (at % block_words)
+
+  rest_bit : (at r : ℕ) → at ≤ r → r < block_words * (at / block_words + 1) → marked m r ≡ bit_set (rest_at at) (r - at)
+  rest_bit at r h l =
+      ap (marked m) (let e : r ≡ block_words * (at / block_words) + (at % block_words + (r - at)) = omega arith in e)
+      ∙ marked-block m (at / block_words) (at % block_words + (r - at)) (omega arith) ∙ sym (bit_shr (get_or m (at / block_words) 0) (at % block_words) (r - at))
+
+  pub clear-on : (p at : ℕ) → rest_at at ≡ 0 → Clear p at → Clear p (block_words * (at / block_words + 1))
+  clear-on p at e a r h l =
+      ⊎_elim (λ (g : at ≤ r). rest_bit at r g l ∙ ap (λ (w : ℕ). bit_set w (r - at)) e ∙ bit_zero (r - at)) (λ (g : r < at). a r h g) (le_or_lt at r)
+
+  pub next_here : (p at : ℕ) → p ≤ at → at < end_of m → Fit m → rest_at at ≢ 0 → Clear p at → Some (at + count_trailing_zeros block_words (rest_at at)) ≡ next_set m p
+  next_here p at h o f ne a =
+      let word = get_or m (at / block_words) 0 in
+      let z = count_trailing_zeros block_words (rest_at at) in
+      let low = lowest block_words (rest_at at) ne (omega (arith, f (at / block_words), shr_le word (at % block_words))) in
+      let room : at % block_words + z < block_words = bit_within block_words word (at % block_words + z) (f (at / block_words)) (sym (bit_shr word (at % block_words) z) ∙ low.is_set) in
+      let back : at + z - at ≡ z = omega arith in
+      next-found p (at + z) (omega arith) (omega arith) (rest_bit at (at + z) (omega arith) (omega arith) ∙ ap (bit_set (rest_at at)) back ∙ low.is_set)
+      (λ r g l. ⊎_elim (λ (i : at ≤ r). rest_bit at r i (omega arith) ∙ low.none_before (r - at) (omega arith)) (λ (i : r < at). a r g i) (le_or_lt at r))
+
 -- the places of word b from p on begin at `at`, and no place from p to before that word is marked
 module _ (m : List ℕ) (p b at : ℕ) (from : at ≡ max p (block_words * b)) (reached : p / block_words ≤ b) (clear : Clear m p (block_words * b)) where
   -- what is left of the word from there on
   abbrev rest : ℕ
   rest = get_or m b 0 / 2 ^ (at % block_words)
 
-  rest_bit : (r : ℕ) → at ≤ r → r < block_words * (b + 1) → marked m r ≡ bit_set rest (r - at)
-  rest_bit r h l =
-      ap (marked m) (let e : r ≡ block_words * b + (at % block_words + (r - at)) = omega arith in e)
-      ∙ marked-block m b (at % block_words + (r - at)) (omega arith) ∙ sym (bit_shr (get_or m b 0) (at % block_words) (r - at))
+  in_word : at / block_words ≡ b
+  in_word = omega arith
 
-  pub clear-on : rest ≡ 0 → Clear m p (block_words * (b + 1))
-  clear-on e r h l = ⊎_elim (λ (g : at ≤ r). rest_bit r g l ∙ ap (λ (w : ℕ). bit_set w (r - at)) e ∙ bit_zero (r - at)) (λ (g : r < at). clear r h (omega arith)) (le_or_lt at r)
+  same_rest : rest_at m at ≡ rest
+  same_rest = ap (λ (w : ℕ). get_or m w 0 / 2 ^ (at % block_words)) in_word
 
-  pub next_here : b < length m → Fit m → rest ≢ 0 → Some (at + count_trailing_zeros block_words rest) ≡ next_set m p
-  next_here o f ne =
-      let word = get_or m b 0 in
-      let z = count_trailing_zeros block_words rest in
-      let low = lowest block_words rest ne (omega (arith, f b, shr_le word (at % block_words))) in
-      let room : at % block_words + z < block_words = bit_within block_words word (at % block_words + z) (f b) (sym (bit_shr word (at % block_words) z) ∙ low.is_set) in
-      let back : at + z - at ≡ z = omega arith in
-      next-found m p (at + z) (omega arith) (omega arith) (rest_bit (at + z) (omega arith) (omega arith) ∙ ap (bit_set rest) back ∙ low.is_set)
-      (λ r g l. ⊎_elim (λ (i : at ≤ r). rest_bit r i (omega arith) ∙ low.none_before (r - at) (omega arith)) (λ (i : r < at). clear r g (omega arith)) (le_or_lt at r))
+  clear_before : Clear m p at
+  clear_before r h l = clear r h (omega arith)
+
+  pub word_clear : rest ≡ 0 → Clear m p (block_words * (b + 1))
+  word_clear e = subst (λ (w : ℕ). Clear m p (block_words * (w + 1))) in_word (clear-on m p at (same_rest ∙ e) clear_before)
+
+  pub next_in_word : b < length m → Fit m → rest ≢ 0 → Some (at + count_trailing_zeros block_words rest) ≡ next_set m p
+  next_in_word o f ne =
+      sym (ap (λ (w : ℕ). Some (at + count_trailing_zeros block_words w)) same_rest)
+      ∙ next_here m p at (omega arith) (omega arith) f (λ z. ne (sym same_rest ∙ z)) clear_before

@@ -1,7 +1,7 @@
 -- A range of places marked too: in one word by a mask, in a bitmap word by word. Assumes nothing.
-use mathlib.Core.Path.{◌≡◌, sym, ap, ap₂, ◌∙◌, subst}
+use mathlib.Core.Path.{◌≡◌, refl, sym, ap, ap₂, ◌∙◌, subst}
 use mathlib.Core.Logic.{⊎_elim}
-use mathlib.Core.Bool.{Bool, true, ◌||◌}
+use mathlib.Core.Bool.{Bool, true, false, ◌||◌}
 use mathlib.Core.List.{List}
 use Prim.Native.Nat.{ℕ, ◌+◌, ◌-◌, ◌*◌, ◌/◌, ◌%◌, ◌^◌, ◌≤◌, ◌<◌, max}
 use native.Mathlib.Omega.{arith}
@@ -13,7 +13,7 @@ use lib.Seq.{get_or-set_same, get_or-set_other}
 use borrow.Author.Tests.{leb-true, ltb-true, le-leb, lt-ltb}
 use Rattle.meaning.specs.Limits.{block_words}
 use Rattle.meaning.specs.Places.{bit_set, marked}
-use Rattle.meaning.proofs.Deciding.{le_or_lt, eq_or_ne, clash, same_test, and_both, both_and, or_one, or_left}
+use Rattle.meaning.proofs.Deciding.{le_or_lt, eq_or_ne, clash, same_test, and_both, both_and, or_one, or_left, or_right}
 use Rattle.meaning.proofs.Bitmaps.{Fit, marked_out, length-bitmap, is-bitmap, marked-bitmap}
 use Rattle.bits.specs.Ranges.{end_of, between, Gains, set_range}
 use Rattle.bits.proofs.Words.{bit_shr, bit_within, bit_or_lem, shl_low, shl_high, bit_ones}
@@ -58,6 +58,9 @@ bit_filled n w i k j h = bit_or_lem w ((2 ^ n - 1) / 2 ^ (n - k) * 2 ^ i % 2 ^ n
 
 -- ## A bitmap
 
+pub gains_none : (m : List ℕ) (from : ℕ) → Gains m m from from
+gains_none m from q = adds_none (marked m q) from from q (λ b. omega arith)
+
 -- one word stored with some bits set too
 pub gains_part : (m : List ℕ) (at k w : ℕ) → at < end_of m → at % block_words + k ≤ block_words
     → ((j : ℕ) → bit_set w j ≡ bit_set (get_or m (at / block_words) 0) j || between (at % block_words) (at % block_words + k) j) → Gains m (set m (at / block_words) w) at (at + k)
@@ -72,6 +75,17 @@ gains_part m at k w h l a q =
     ∙ ap₂ (λ (x : ℕ) (t : Bool). bit_set (get_or m x 0) j || t) (sym e) (between_same i (i + k) j at (at + k) q (λ b. (omega arith, omega arith)) (λ b. (omega arith, omega arith))))
     (λ ne. ap (λ (x : ℕ). bit_set x j) (get_or-set_other m b (q / block_words) w 0 ne) ∙ adds_none (marked m q) at (at + k) q (λ b. ne (omega arith)))
     (eq_or_ne (q / block_words) b)
+
+pub gains_more : (a b c : List ℕ) (from at to : ℕ) → from ≤ at → at ≤ to → Gains a b from at → Gains b c at to → Gains a c from to
+gains_more a b c from at to h l f g q = g q ∙ ap (λ (x : Bool). x || between at to q) (f q) ∙ go (marked a q)
+  where
+    go : (x : Bool) → x || between from at q || between at to q ≡ x || between from to q
+    go true = refl
+    go false =
+        same_test true (between from at q || between at to q) (between from to q)
+        (λ e. ⊎_elim (λ x. let b = between_is from at q x in between_in from to q (omega arith) (omega arith)) (λ x. let b = between_is at to q x in between_in from to q (omega arith) (omega arith)) (or_one (between from at q) (between at to q) e))
+        (λ e. let b = between_is from to q e in
+        ⊎_elim (λ (i : at ≤ q). or_right (between from at q) (between at to q) (between_in at to q i b.1)) (λ (i : q < at). or_left (between from at q) (between at to q) (between_in from at q b.0 i)) (le_or_lt at q))
 
 -- a bitmap that has gained all of them; where from ≥ to there is none
 pub gains_all : (m after : List ℕ) (from at to : ℕ) → length after ≡ length m → Fit after → to ≤ at → at ≤ max from to → Gains m after from at → after ≡ set_range m from to

@@ -4,6 +4,7 @@ use contract.Lifetimes.{Lfts}
 use Rattle.refusals.specs.declared.Refusal.{Refusal}
 use Rattle.store.specs.declared.Store.{Store}
 use Rattle.store.specs.declared.Answer.{Answer}
+use Rattle.store.specs.declared.Said.{Said}
 use Rattle.store.specs.declared.Call.{Call}
 use Rattle.store.specs.declared.Call.TheVariants.{PutInt, PutNil, Copy, NewRecord, NewRaw, ReadField, WriteField, ReadRaw, WriteRaw, Ask, Same}
 use Rattle.calling.proofs.Sequence.{Lent, Answers, record_after, leaves_link}
@@ -19,7 +20,7 @@ use Rattle.fields.proofs.write_field.Reads as write-field
 use Rattle.fields.proofs.read_raw.Reads as read-raw
 use Rattle.fields.proofs.write_raw.Reads as write-raw
 
-module _ (κs : Lfts 2) (store : Store) (r : Result Answer Refusal) where
+module _ (κs : Lfts 2) (store : Store) (r : Result (Answer Said) Refusal) where
   abbrev given : List ℕ → List ℕ → Lent
   given heap slots = record { store = store; heap = heap; slots = slots }
 

@@ -40,18 +40,18 @@ pub record Lent : Type 0 where
   pub slots : List ℕ
 
 pub record Left : Type 0 where
-  pub answer : Result Answer Refusal
+  pub answer : Result (Answer Said) Refusal
   pub store : Store
   pub heap : List ℕ
   pub slots : List ℕ
 
 -- the record after a call: the one given back, or after a refusal the caller's own
-abbrev pub record_after : Store → Result Answer Refusal → Store
+abbrev pub record_after : Store → Result (Answer Said) Refusal → Store
 record_after s (Ok a) = a.store
 record_after s (Err e) = s
 
 -- what an answer says, without the record
-abbrev pub saying : Result Answer Refusal → Result Said Refusal
+abbrev pub saying : Result (Answer Said) Refusal → Result Said Refusal
 saying (Ok a) = Ok a.said
 saying (Err e) = Err e
 
@@ -125,7 +125,7 @@ link_store : (c : Lent) (n : Next) (e : Left) → Link c n e → e.store ≡ rec
 link_store c (calls k) e w = w.store_left
 link_store c (collects b) e w = w.store_left
 
-record_is : (c : Lent) (r : Result Answer Refusal) → store_of (record_after c.store r) ≡ store_after (lent_mem c) r
+record_is : (c : Lent) (r : Result (Answer Said) Refusal) → store_of (record_after c.store r) ≡ store_after (lent_mem c) r
 record_is c (Ok a) = refl
 record_is c (Err e) = refl
 
@@ -138,7 +138,7 @@ leaves_after c n e w =
 
 -- ## Every sequence has one chain of ends, and no other
 -- an answer that says what the call on paper does
-abbrev answer_to : (x : Answered (Did Mem)) → Listed x → Result Answer Refusal
+abbrev answer_to : (x : Answered (Did Mem)) → Listed x → Result (Answer Said) Refusal
 answer_to (gives d) l = Ok (record { store = store_back d.state.store; said = said_back d.said })
 answer_to (refused n p) (e, _, _) = Err e
 
@@ -240,7 +240,7 @@ pub demand_three_told : (heap : List ℕ) (n : ℕ) (ns : List Next) (es : List 
 demand_three_told heap n ns es w = told-run (empty_lent heap n) ns es w ∙ demand_three heap n (map step_of ns)
 
 -- what an answer says is that of `saying`
-said_saying : (r : Result Answer Refusal) → said_of r ≡ answer_of paper_said (saying r)
+said_saying : (r : Result (Answer Said) Refusal) → said_of r ≡ answer_of paper_said (saying r)
 said_saying (Ok a) = refl
 said_saying (Err e) = refl
 

@@ -65,7 +65,7 @@ abbrev pub store_back : PaperStore → Store
 store_back p = record { top = p.top; calls = p.calls }
 
 -- an answer is known by what it says and the record that stands after it
-pub answer_known : (m : Mem) (r s : Result Answer Refusal) → said_of r ≡ said_of s → store_after m r ≡ store_after m s → r ≡ s
+pub answer_known : (m : Mem) (r s : Result (Answer Said) Refusal) → said_of r ≡ said_of s → store_after m r ≡ store_after m s → r ≡ s
 answer_known m (Ok a) (Ok b) e f =
     let s : a.said ≡ b.said = let q = said_one (Ok a.said) (Ok b.said) e in cc in
     let t : a.store ≡ b.store = ap store_back f in
@@ -75,13 +75,13 @@ answer_known m (Ok a) (Err e) p f = cc
 answer_known m (Err d) (Ok b) p f = cc
 
 -- ## Two ends
-pub record Same (r s : Result Answer Refusal) (h h' t t' : List ℕ) : Type 0 where
+pub record Same (r s : Result (Answer Said) Refusal) (h h' t t' : List ℕ) : Type 0 where
   pub answers : r ≡ s
   pub heaps : h ≡ h'
   pub slots_same : t ≡ t'
 
 -- the same memory and call on paper, the same answer and buffers
-pub leaves_settled : {m : Mem} {x : Answered (Did Mem)} {r s : Result Answer Refusal} {h h' t t' : List ℕ} → Leaves m x r h t → Leaves m x s h' t' → Same r s h h' t t'
+pub leaves_settled : {m : Mem} {x : Answered (Did Mem)} {r s : Result (Answer Said) Refusal} {h h' t t' : List ℕ} → Leaves m x r h t → Leaves m x s h' t' → Same r s h h' t t'
 leaves_settled {m} {x} {r} {s} p q = record {
   answers = answer_known m r s (p.answer_is ∙ sym q.answer_is) (p.store_is ∙ sym q.store_is);
   heaps = p.heap_is ∙ sym q.heap_is;
@@ -89,13 +89,13 @@ leaves_settled {m} {x} {r} {s} p q = record {
 }
 
 -- of a collection also marks and tables
-pub record SameCollected (r s : Result Answer Refusal) (h h' t t' m m' l l' o o' : List ℕ) : Type 0 where
+pub record SameCollected (r s : Result (Answer Said) Refusal) (h h' t t' m m' l l' o o' : List ℕ) : Type 0 where
   pub ends : Same r s h h' t t'
   pub marks_same : m ≡ m'
   pub lives : l ≡ l'
   pub offsets_same : o ≡ o'
 
-pub leaves-collected_settled : {mem : Mem} {b : Brought} {r s : Result Answer Refusal} {h h' t t' m m' l l' o o' : List ℕ}
+pub leaves-collected_settled : {mem : Mem} {b : Brought} {r s : Result (Answer Said) Refusal} {h h' t t' m m' l l' o o' : List ℕ}
     → LeavesCollected mem b r h t m l o → LeavesCollected mem b s h' t' m' l' o' → SameCollected r s h h' t t' m m' l l' o o'
 leaves-collected_settled p q = record {
   ends = leaves_settled p.leaves q.leaves;
@@ -106,14 +106,14 @@ leaves-collected_settled p q = record {
 
 -- ## The functions' own promises: two ends of one call are the same
 -- a call that lends heap and slots to be changed, one of them, or none
-abbrev Both : (Result Answer Refusal → MutBor (List ℕ) → MutBor (List ℕ) → Type 0) → Type 0
-Both End = (r s : Result Answer Refusal) (h h' t t' : MutBor (List ℕ)) → End r h t → End s h' t' → Same r s h.now h'.now t.now t'.now
+abbrev Both : (Result (Answer Said) Refusal → MutBor (List ℕ) → MutBor (List ℕ) → Type 0) → Type 0
+Both End = (r s : Result (Answer Said) Refusal) (h h' t t' : MutBor (List ℕ)) → End r h t → End s h' t' → Same r s h.now h'.now t.now t'.now
 
-abbrev One : (Result Answer Refusal → MutBor (List ℕ) → Type 0) → Type 0
-One End = (r s : Result Answer Refusal) (b b' : MutBor (List ℕ)) → End r b → End s b' → (r ≡ s) × (b.now ≡ b'.now)
+abbrev One : (Result (Answer Said) Refusal → MutBor (List ℕ) → Type 0) → Type 0
+One End = (r s : Result (Answer Said) Refusal) (b b' : MutBor (List ℕ)) → End r b → End s b' → (r ≡ s) × (b.now ≡ b'.now)
 
-abbrev Alone : (Result Answer Refusal → Type 0) → Type 0
-Alone End = (r s : Result Answer Refusal) → End r → End s → r ≡ s
+abbrev Alone : (Result (Answer Said) Refusal → Type 0) → Type 0
+Alone End = (r s : Result (Answer Said) Refusal) → End r → End s → r ≡ s
 
 module _ (κs : Lfts 2) (store : Store) where
   -- heap and slots lent to be changed
@@ -162,10 +162,10 @@ module _ (κs : Lfts 2) (store : Store) where
 
 module _ (κs : Lfts 6) (store : Store) (heap roots marks : MutBor (List ℕ)) (order : Bor (List ℕ)) (live offsets : MutBor (List ℕ)) where
   -- the collection ends with answer r, and the buffers hold h, t, m, l and o
-  abbrev Collect : Result Answer Refusal → MutBor (List ℕ) → MutBor (List ℕ) → MutBor (List ℕ) → MutBor (List ℕ) → MutBor (List ℕ) → Type 0
+  abbrev Collect : Result (Answer Said) Refusal → MutBor (List ℕ) → MutBor (List ℕ) → MutBor (List ℕ) → MutBor (List ℕ) → MutBor (List ℕ) → Type 0
   Collect r h t m l o =
       collect.Post κs (store, (heap, (roots, (marks, (order, (live, (offsets, tt))))))) r (store, (h, (t, (m, (order, (l, (o, tt)))))))
 
-  pub collect_settled : (r s : Result Answer Refusal) (h h' t t' m m' l l' o o' : MutBor (List ℕ)) → Collect r h t m l o → Collect s h' t' m' l' o'
+  pub collect_settled : (r s : Result (Answer Said) Refusal) (h h' t t' m m' l l' o o' : MutBor (List ℕ)) → Collect r h t m l o → Collect s h' t' m' l' o'
       → SameCollected r s h.now h'.now t.now t'.now m.now m'.now l.now l'.now o.now o'.now
   collect_settled r s h h' t t' m m' l l' o o' p q = leaves-collected_settled p q

@@ -29,6 +29,7 @@ use Rattle.std.proofs.Common.{Ok, Err}
 use Rattle.refusals.specs.Paper.{number_of, place_of as reported}
 use Rattle.refusals.specs.declared.Refusal.{Refusal}
 use Rattle.refusals.specs.declared.Refusal.TheVariants.{Sizes}
+use Rattle.walk.specs.declared.Survey.{Survey}
 use Rattle.compactor.specs.declared.Totals.{Totals}
 use Rattle.compactor.specs.Collects.{collected_totals, Collects}
 use Rattle.compactor.specs.Phases.{Sorted, References, PreparedAs, Finishable, Finished}
@@ -65,9 +66,9 @@ module _ {heap : List ℕ} {top : ℕ} {roots marks order live offsets : List �
       })
 
   -- refused by 2 to 6
-  pub collects_refused : (live' offsets' refs : List ℕ) (e : Refusal) → PreparedAs heap top roots marks order live offsets live' offsets' refs (Err e)
+  pub collects_refused : (live' offsets' : List ℕ) (survey : Survey) (e : Refusal) → PreparedAs heap top roots marks order live offsets live' offsets' survey (Err e)
       → Collects (collect heap top roots marks order live offsets) (Err e) heap roots marks live' offsets'
-  collects_refused live' offsets' refs e p = ⊎_elim (unsound live' offsets' e) (λ x. misordered live' offsets' e x.0) p
+  collects_refused live' offsets' survey e p = ⊎_elim (unsound live' offsets' e) (λ x. misordered live' offsets' e x.0) p
 
 -- ## Accepted
 module _ {heap : List ℕ} {top : ℕ} {roots marks order live₀ offsets₀ : List ℕ} (f : Fit heap top roots marks order live₀ offsets₀)

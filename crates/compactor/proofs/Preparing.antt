@@ -6,23 +6,28 @@ use mathlib.Core.List.{List, append-nil}
 use Prim.Native.Nat.{ℕ, ◌+◌, ◌-◌, ◌*◌, ◌≤◌, ◌<◌}
 use native.Mathlib.Omega.{arith}
 use lib.Dec.{leb, eqb}
-use lib.ListN.{length}
+use lib.ListN.{length, replicate}
 use borrow.Author.Tests.{leb-true, eqb-true}
 use Rattle.meaning.specs.Limits.{block_words, table_entries, order_entries, blocks_of}
 use Rattle.meaning.specs.Places.{places_from, marked, bitmap}
+use Rattle.meaning.specs.Objects.{Object}
 use Rattle.meaning.specs.Slide.{live_at}
 use Rattle.meaning.specs.Collect.{sizes_fit, tables_fit, checked, offset_table}
 use Rattle.meaning.proofs.Deciding.{and_both, true_or_false}
 use Rattle.meaning.proofs.Counting.{places_split, places_none, below_flat}
+use Rattle.meaning.proofs.Bitmaps.{marked_zeros}
 use Rattle.meaning.proofs.Bridge.{live-low}
+use Rattle.meaning.proofs.OrderJudged.{judge-refused}
 use Rattle.meaning.proofs.ChecksPassed.{checked-sound}
-use Rattle.objects.specs.Examined.{Examined}
+use Rattle.objects.specs.Examined.{Examined, Surveyed}
 use Rattle.std.specs.Bool.{⊤}
 use Rattle.std.proofs.Common.{Result, Ok, Err}
 use Rattle.refusals.specs.declared.Refusal.{Refusal}
+use Rattle.refusals.specs.declared.Refusal.TheVariants.{OrderBreaks}
+use Rattle.walk.specs.Survey.{Blank}
 use Rattle.walk.specs.declared.Survey.{Survey}
 use Rattle.objects.proofs.Sizes.{Sizes, sizes}
-use Rattle.compactor.specs.Phases.{OrderSays, Settleable, Settled, Sorted, PreparedAs}
+use Rattle.compactor.specs.Phases.{OrderSays, Settleable, Settled, Sorted, References, PreparedAs}
 
 -- the sizes of tables that fit
 pub record TableSizes (heap live offsets : List ℕ) : Type 0 where
@@ -54,6 +59,16 @@ module _ {heap : List ℕ} {top : ℕ} {roots marks order live offsets : List �
 
   pub fit-order : length order ≤ order_entries
   fit-order = leb-true (length order) order_entries (and_both (leb (length order) order_entries) _ f.tables).0
+
+  -- nothing is noted at first
+  pub fit-blank : (refs : List ℕ) → ((q : ℕ) → marked refs q ≡ false) → Blank heap top (replicate table_entries 0) (replicate table_entries 0) refs
+  fit-blank refs blank = record {
+    room = fit-sizes.room;
+    small = fit-sizes.small;
+    no_header = marked_zeros table_entries;
+    no_word = marked_zeros table_entries;
+    no_field = blank;
+  }
 
 -- the live places, from any end at the top or above
 module _ (t : ℕ → Bool) (top end : ℕ) (far : top ≤ end) (low : (p : ℕ) → t p ≡ true → p < top) where
@@ -106,18 +121,32 @@ module _ {heap : List ℕ} {top : ℕ} {roots marks order live₀ offsets₀ : L
     says = says_cut t top (block_words * length live₀) (omega (arith, (fit-tables f).covers, (fit-sizes f).room)) low order r (rw same at s.says);
   }
 
-  -- the order judged, with the references of the survey
+  -- the order judged, with the survey
   pub prepared : (live offsets : List ℕ) (r : Result ℕ Refusal) → Settled survey.words (length live₀) order live offsets r
-      → PreparedAs heap top roots marks order live₀ offsets₀ live offsets survey.fields r
+      → PreparedAs heap top roots marks order live₀ offsets₀ live offsets survey r
   unfolding sorted
-  prepared live offsets (Err e) s = inr (sorted live offsets (Err e) s, record { holds_ref = x.2.holds_ref })
-  prepared live offsets (Ok total) s = (sorted live offsets (Ok total) s, record { holds_ref = x.2.holds_ref })
+  prepared live offsets (Err e) s = inr (sorted live offsets (Err e) s, x.2)
+  prepared live offsets (Ok total) s = (sorted live offsets (Ok total) s, x.2)
+
+-- the references of a survey
+pub surveyed_references : {heap : List ℕ} {m : ℕ → Bool} {os : List Object} {headers words refs : List ℕ} → Surveyed heap m os headers words refs
+    → References heap m os refs
+surveyed_references x = record { holds_ref = x.holds_ref }
 
 -- what was said, once it is known what
 pub examined_as : (heap : List ℕ) (top : ℕ) (roots marks : List ℕ) (survey : Survey) (r s : Result ⊤ Refusal) → r ≡ s
     → Examined heap top roots marks survey r → Examined heap top roots marks survey s
 examined_as heap top roots marks survey r s e x = subst (Examined heap top roots marks survey) e x
 
-pub prepared_as : (heap : List ℕ) (top : ℕ) (roots marks order live₀ offsets₀ live offsets refs : List ℕ) (r s : Result ℕ Refusal) → r ≡ s
-    → PreparedAs heap top roots marks order live₀ offsets₀ live offsets refs r → PreparedAs heap top roots marks order live₀ offsets₀ live offsets refs s
-prepared_as heap top roots marks order live₀ offsets₀ live offsets refs r s e x = subst (PreparedAs heap top roots marks order live₀ offsets₀ live offsets refs) e x
+pub prepared_as : (heap : List ℕ) (top : ℕ) (roots marks order live₀ offsets₀ live offsets : List ℕ) (survey : Survey) (r s : Result ℕ Refusal) → r ≡ s
+    → PreparedAs heap top roots marks order live₀ offsets₀ live offsets survey r → PreparedAs heap top roots marks order live₀ offsets₀ live offsets survey s
+prepared_as heap top roots marks order live₀ offsets₀ live offsets survey r s e x = subst (PreparedAs heap top roots marks order live₀ offsets₀ live offsets survey) e x
+
+-- an order breaks within it or at its end, so the position is small
+pub misordered_low : {heap : List ℕ} {top : ℕ} {roots marks order live₀ offsets₀ live offsets : List ℕ} {i : ℕ}
+    → Fit heap top roots marks order live₀ offsets₀ → Sorted heap top roots marks order live₀ live offsets (Err (OrderBreaks i)) → i ≤ order_entries
+misordered_low {order = order} {i = i} f s =
+    let (j, is, (rest, breaks)) = s.says in
+    let same : i ≡ j = cc is in
+    let b = judge-refused _ order j rest breaks in
+    ⊎_elim (λ (low, bad). omega (arith, same, fit-order f)) (λ (fine, other, e). omega (arith, same, fit-order f)) b.here

@@ -11,6 +11,8 @@ use Rattle.meaning.specs.Collect.{judged, offset_table}
 use Rattle.meaning.proofs.CollectedHeap.{Fixed, Zeroed}
 use Rattle.blocks.specs.Cursors.{live_places, Movable}
 use Rattle.fixing.specs.Fixable.{RootsFixable, Fixable}
+use Rattle.walk.specs.declared.Survey.{Survey}
+use Rattle.objects.specs.Examined.{Surveyed}
 use Rattle.refusals.specs.Paper.{number_of, place_of}
 use Rattle.refusals.specs.declared.Refusal.{Refusal}
 use Rattle.refusals.specs.declared.Refusal.TheVariants.{OrderBreaks}
@@ -49,14 +51,14 @@ pub record Sorted (heap : List ℕ) (top : ℕ) (roots marks order live₀ live 
 pub record References (heap : List ℕ) (m : ℕ → Bool) (os : List Object) (refs : List ℕ) : Type 0 where
   pub holds_ref : (q : ℕ) → marked refs q ≡ field_at m os q && is_ref (get_or heap q 0)
 
--- refusals 2 to 5 leave the tables as found; past them the tables are filled, and the references handed on
-module _ (heap : List ℕ) (top : ℕ) (roots marks order live₀ offsets₀ live offsets refs : List ℕ) where
+-- refusals 2 to 5 leave the tables as found; past them the tables are filled, and the survey handed on
+module _ (heap : List ℕ) (top : ℕ) (roots marks order live₀ offsets₀ live offsets : List ℕ) (v : Survey) where
   abbrev pub PreparedAs : Result ℕ Refusal → Type 0
   PreparedAs (Err e) =
       ((judged heap top roots marks (parse heap top) ≡ refused (number_of e) (place_of e)) × (live ≡ live₀) × (offsets ≡ offsets₀))
-      ⊎ ((s : Sorted heap top roots marks order live₀ live offsets (Err e)) × References heap (marked marks) s.objects refs)
+      ⊎ ((s : Sorted heap top roots marks order live₀ live offsets (Err e)) × Surveyed heap (marked marks) s.objects v.headers v.words v.fields)
   PreparedAs (Ok total) =
-      (s : Sorted heap top roots marks order live₀ live offsets (Ok total)) × References heap (marked marks) s.objects refs
+      (s : Sorted heap top roots marks order live₀ live offsets (Ok total)) × Surveyed heap (marked marks) s.objects v.headers v.words v.fields
 
 -- what fixing and moving ask
 pub record Slidable (heap : List ℕ) (top : ℕ) (roots order live refs : List ℕ) (total : ℕ) : Type 0 where

@@ -55,8 +55,8 @@ fn settle(
     }
 }
 
-// Checks 2 to 5; past them the tables are filled and the order is judged; the answer is the number of live words. The references
-// of a sound heap are left in the survey.
+// Checks 2 to 5; past them the tables are filled and the order is judged; the answer is the number of live words. The survey of
+// a sound heap is handed on, its fields being those that hold references.
 pub fn prepare(
     given: Given,
     order: &[u32],
@@ -66,7 +66,7 @@ pub fn prepare(
 ) -> Result<usize, Refusal>
     requires { tables_fit given.heap.now order.now live.old offsets.old ≡ true }
     ensures { PreparedAs given.entry.heap.now given.entry.top given.entry.roots.now given.entry.marks.now order.now
-        live.old offsets.old live.new offsets.new survey.new.fields result }
+        live.old offsets.old live.new offsets.new survey.new result }
 {
     *survey = Survey::blank();
     given.examine(survey)?;

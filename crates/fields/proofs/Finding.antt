@@ -1,7 +1,7 @@
 -- The calls about a field do what they do to the object that is found. Assumes nothing.
 use Rattle.std.proofs.Common.{◌≡◌, ℕ, Bool, true, false, ltb, length, refl, ap}
 use Rattle.meaning.specs.Answers.{Answer as Answered}
-use Rattle.meaning.specs.Calls.{Call, need, fits, find, admit, read_field, write_field, read_raw, write_raw}
+use Rattle.meaning.specs.Calls.{Call, need, slot, fits, find, admit, read_field, write_field, read_raw, write_raw}
 use Rattle.meaning.specs.Store.{Mem, view_of, shown, acted, answered}
 use Rattle.fields.specs.Fields.{finding}
 
@@ -13,10 +13,14 @@ pub writes_field : (m : Mem) (o f s : ℕ) → answered m (write_field o f s) �
 unfolding answered admit finding
 writes_field m o f s = refl
 
--- a call with one slot asks for it once
 twice : {A : Type 0} (b : Bool) (n q : ℕ) (x : Answered A) → need b n q x ≡ need b n q (need b n q x)
 twice true n q x = refl
 twice false n q x = refl
+
+-- a call with one slot asks for it once
+pub finding-once : (m : Mem) (kind o f : ℕ) → need (fits (view_of m)) 1 0 (slot (view_of m) o (find kind o f (shown m o))) ≡ finding m kind o f o
+unfolding finding
+finding-once m kind o f = ap (need (fits (view_of m)) 1 0) (twice (ltb o (length m.slots)) 7 o (find kind o f (shown m o)))
 
 raw_found : (m : Mem) (c : Call) (o f : ℕ) → acted m c (need (fits (view_of m)) 1 0 (need (ltb o (length m.slots)) 7 o (find 1 o f (shown m o)))) ≡ acted m c (finding m 1 o f o)
 unfolding finding

@@ -31,7 +31,7 @@ judged_seen s (Object p k n) h = (p, refl)
 judged_seen s Stray h = absurd (h refl)
 
 -- an ask of what is not stray
-pub leaves-asked : (heap slots : List ℕ) (s : Store) (slot : ℕ) (x : Seen) (a : Said) (r : Result Answer Refusal)
+pub leaves-asked : (heap slots : List ℕ) (s : Store) (slot : ℕ) (x : Seen) (a : Said) (r : Result (Answer Said) Refusal)
     → fits (view_of (mem_of heap slots s)) ≡ true → slot < length slots → seen_of x ≡ shown (mem_of heap slots s) slot → (x ≡ Stray → ⊥)
     → r ≡ Ok (told_of s a) → paper_said a ≡ asked (seen_of x) → Leaves (mem_of heap slots s) (answered (mem_of heap slots s) (ask slot)) r heap slots
 unfolding answered admit
@@ -45,7 +45,7 @@ found_place f w (refused n p) e = absurd (cc e)
 found_place f w (gives p) e = (p, refl, cc e)
 
 -- a call that finds its word leaves what it does with the word, d
-pub leaves-found : {heap slots : List ℕ} {kind o f t w : ℕ} {x : Result ℕ Refusal} {r : Result Answer Refusal} {a : Said} (s : Store) (c : Call)
+pub leaves-found : {heap slots : List ℕ} {kind o f t w : ℕ} {x : Result ℕ Refusal} {r : Result (Answer Said) Refusal} {a : Said} (s : Store) (c : Call)
     (d : Mem → ℕ → Did Mem) → let m = mem_of heap slots s in admit (view_of m) c ≡ finding m kind o f t → Finds m kind o f t x → x ≡ Ok w
     → ((p : ℕ) → act m c p ≡ d m (suc p + f)) → r ≡ Ok (told_of s a) → paper_said a ≡ (d m w).said
     → store_of (ticked_of s) ≡ (d m w).state.store → Leaves m (answered m c) r (d m w).state.heap (d m w).state.slots
@@ -60,7 +60,7 @@ not_found f n p (refused a b) e = cc
 not_found f n p (gives a) e = absurd (cc e)
 
 -- one that does not find it leaves all as found
-pub leaves_unfound : {heap slots : List ℕ} {s : Store} {kind o f t : ℕ} {e : Refusal} {x : Result ℕ Refusal} {r : Result Answer Refusal} (c : Call)
+pub leaves_unfound : {heap slots : List ℕ} {s : Store} {kind o f t : ℕ} {e : Refusal} {x : Result ℕ Refusal} {r : Result (Answer Said) Refusal} (c : Call)
     → let m = mem_of heap slots s in admit (view_of m) c ≡ finding m kind o f t → Finds m kind o f t x → x ≡ Err e → r ≡ Err e
     → Leaves m (answered m c) r heap slots
 unfolding answered

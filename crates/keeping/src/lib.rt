@@ -54,7 +54,8 @@ pub fn tell(kept: &mut [u64; 8], heap: &mut [u32], roots: &mut [u32], wanted: Ca
     telling::code(answer(kept, heap, roots, wanted))
 }
 
-// A call with values.
+// A call with values. Inlined, so that the call is not copied on the way.
+#[inline(always)]
 pub fn show(
     kept: &mut [u64; 8],
     heap: &mut [u32],

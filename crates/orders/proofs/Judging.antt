@@ -1,5 +1,5 @@
 -- The judge goes from position to position, with a table that says which steps are done. Assumes nothing.
-use mathlib.Core.Path.{◌≡◌, refl, sym, ◌∙◌}
+use mathlib.Core.Path.{◌≡◌, refl, ◌∙◌}
 use mathlib.Core.Logic.{⊎_elim}
 use mathlib.Core.Bool.{Bool, true, false, not, ◌||◌, or-true, or-false, or_assoc}
 use mathlib.Core.List.{List, [], ◌∷◌, ◌++◌}
@@ -53,27 +53,25 @@ module _ (offsets : List ℕ) (total : ℕ) (order : List ℕ) where
   judging_start = record { within = omega arith; ticks = ticks_none order; kept = λ k h. absurd (omega arith) }
 
   module _ (table : List Bool) (i : ℕ) (w : Judging table i) where
-    -- what the test of the step says
-    module _ (answer : Bool) (says : (done : List ℕ) → Ticks table done → answer ≡ step_breaks offsets total done (get_or order i 0)) where
-      -- a step that does not break is one of the table
-      pub judging-step : Bounded offsets total → answer ≡ false → get_or order i 0 < table_entries
-      judging-step b e =
-          let t = get_or order i 0 in
-          let low : not (ltb t (blocks_of total)) ≡ false = (or_none (not (ltb t (blocks_of total))) _ (sym (says _ w.ticks) ∙ e)).0 in
-          omega (arith, b.few, ltb-true t (blocks_of total) (not-false _ low))
+    -- a step that does not break is one of the table
+    pub judging-step : Bounded offsets total → breaks_at i ≡ false → get_or order i 0 < table_entries
+    judging-step b e =
+        let t = get_or order i 0 in
+        let low : not (ltb t (blocks_of total)) ≡ false = (or_none (not (ltb t (blocks_of total))) _ e).0 in
+        omega (arith, b.few, ltb-true t (blocks_of total) (not-false _ low))
 
-      pub judging-next : Bounded offsets total → i < length order → answer ≡ false → Judging (set table (get_or order i 0) true) (i + 1)
-      judging-next b h e = record {
-        within = omega arith;
-        ticks = rw (add-one i, take-suc order i 0 h) (ticks_more table (take i order) (get_or order i 0) (judging-step b e) w.ticks);
-        kept = below_more _ i w.kept (sym (says _ w.ticks) ∙ e);
-      }
+    pub judging-next : Bounded offsets total → i < length order → breaks_at i ≡ false → Judging (set table (get_or order i 0) true) (i + 1)
+    judging-next b h e = record {
+      within = omega arith;
+      ticks = rw (add-one i, take-suc order i 0 h) (ticks_more table (take i order) (get_or order i 0) (judging-step b e) w.ticks);
+      kept = below_more _ i w.kept e;
+    }
 
-      pub judging-stop : i < length order → answer ≡ true → Some i ≡ slice_get (entry_breaks offsets total order) 0
-      unfolding entry_breaks
-      judging-stop h e =
-          let (rest, q) = is_lowest breaks_at (length order) i (record { within = h; passes = sym (says _ w.ticks) ∙ e; before = w.kept }) in
-          rw q
+    pub judging-stop : i < length order → breaks_at i ≡ true → Some i ≡ slice_get (entry_breaks offsets total order) 0
+    unfolding entry_breaks
+    judging-stop h e =
+        let (rest, q) = is_lowest breaks_at (length order) i (record { within = h; passes = e; before = w.kept }) in
+        rw q
 
     pub judging-end : (blocks : ℕ) → blocks ≡ blocks_of total → length order ≤ i
         → slice_get (length_breaks (length order) blocks) 0 ≡ slice_get (entry_breaks offsets total order) 0

@@ -42,10 +42,14 @@ place_of BadImage = 0
 abbrev pub text_of : Refusal → List ℕ
 text_of e = codes "refused " ++ decimal (number_of e) ++ codes " at " ++ decimal (place_of e)
 
--- the answer on paper, where f x is what the value x stands for
+-- the answer on paper, where f x is what the value x stands for, and a refusal reports a number and a place
+abbrev pub answer_by : {T E A : Type 0} → (E → ℕ) → (E → ℕ) → (T → A) → Result T E → Answer A
+answer_by number place f (Ok x) = gives (f x)
+answer_by number place f (Err e) = refused (number e) (place e)
+
+-- the same of the refusals above
 abbrev pub answer_of : {T A : Type 0} → (T → A) → Result T Refusal → Answer A
-answer_of f (Ok x) = gives (f x)
-answer_of f (Err e) = refused (number_of e) (place_of e)
+answer_of = answer_by number_of place_of
 
 -- nothing where c holds, else this refusal
 abbrev pub refuse_unless : Bool → Refusal → Result ⊤ Refusal

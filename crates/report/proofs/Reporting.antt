@@ -36,29 +36,33 @@ module _ {bytes : List ℕ} {t : Table} (f : Fitting bytes t) where
   few : t.halves / 2 ≤ most_blocks
   few = omega (arith, f.blocks, f.words)
 
-  -- the collection of an image is that of its bodies in the first parts of the program's buffers, with blank tables
-  pub collection_is : (found : List ℕ) → most_blocks ≤ length found → {heap roots marks order : List ℕ}
+  -- the collection of an image is that of its bodies, with blank tables
+  pub collection_is : (heap roots marks order live offsets : List ℕ)
+      → heap ≡ (image_of bytes t).heap → roots ≡ (image_of bytes t).roots → marks ≡ (image_of bytes t).marks → order ≡ (image_of bytes t).order
+      → live ≡ replicate (t.halves / 2) 0 → offsets ≡ replicate (t.halves / 2) 0
+      → collect heap t.top roots marks order live offsets ≡ collection_of (image_of bytes t)
+  unfolding collection_of
+  collection_is heap roots marks order live offsets h r m o l e =
+      let n : blocks_of (length (image_of bytes t).heap) ≡ t.halves / 2 = ap blocks_of (length_table (λ i. word_at bytes (t.heap + i)) t.words) ∙ sym f.blocks in
+      rw (n, h, r, m, o, l, e) refl
+
+  -- and so of its bodies in the first parts of the program's buffers
+  pub collection_in_buffers : (found : List ℕ) → most_blocks ≤ length found → {heap roots marks order : List ℕ}
       → heap ≡ words_from bytes t.heap (length (take t.words (replicate {A = ℕ} most_words 0)))
       → roots ≡ words_from bytes t.roots (length (take t.slots (replicate {A = ℕ} most_roots 0)))
       → marks ≡ pairs_from bytes t.marks (length (take (t.halves / 2) found))
       → order ≡ words_from bytes t.order (length (take t.steps (replicate {A = ℕ} most_steps 0)))
       → collect heap t.top roots marks order (take (t.halves / 2) (replicate most_blocks 0)) (take (t.halves / 2) (replicate most_blocks 0))
       ≡ collection_of (image_of bytes t)
-  unfolding collection_of
-  collection_is found long h r m o =
-      let n : blocks_of (length (image_of bytes t).heap) ≡ t.halves / 2 = ap blocks_of (length_table (λ i. word_at bytes (t.heap + i)) t.words) ∙ sym f.blocks in
-      rw (
-        n,
-        h,
-        r,
-        m,
-        o,
-        zeros_long t.words most_words f.words,
-        zeros_long t.slots most_roots f.slots,
-        length-take-le (t.halves / 2) found (omega (arith, few)),
-        zeros_long t.steps most_steps f.steps,
-        take-replicate {X = ℕ} (t.halves / 2) most_blocks 0 few,
-      )
+  collection_in_buffers found long {heap} {roots} {marks} {order} h r m o =
+      let blank = take-replicate {X = ℕ} (t.halves / 2) most_blocks 0 few in
+      collection_is heap roots marks order _ _
+      (rw (zeros_long t.words most_words f.words) at h)
+      (rw (zeros_long t.slots most_roots f.slots) at r)
+      (rw (length-take-le (t.halves / 2) found (omega (arith, few))) at m)
+      (rw (zeros_long t.steps most_steps f.steps) at o)
+      blank
+      blank
 
 -- ## A text in the buffer
 

@@ -1,22 +1,25 @@
 -- The lowest place that passes a test: found directly, in a word, and block by block. Assumes nothing.
 use mathlib.Core.Path.{◌≡◌, refl, ap, ◌∙◌}
-use mathlib.Core.Logic.{⊎_elim}
+use mathlib.Core.Logic.{⊎_elim, ◌≢◌}
 use mathlib.Core.Bool.{Bool, true, false, not, ◌&&◌}
 use mathlib.Core.List.{List, [], ◌∷◌}
 use Prim.Native.Nat.{ℕ, ◌+◌, ◌-◌, ◌*◌, ◌^◌, ◌≤◌, ◌<◌}
 use native.Mathlib.Nat.{zero-add}
 use native.Mathlib.Omega.{arith}
-use lib.Bits.{bit_and}
+use lib.Bits.{bit_and, and_le_l}
+use lib.Count.{count_trailing_zeros, trailing_of_zero}
 use lib.ListN.{length, get_or}
 use Rattle.std.specs.List.{position, position_or_len}
-use Rattle.std.proofs.Common.{Some, None, slice_get}
+use Rattle.std.proofs.Common.{Option, Some, None, slice_get, unwrap_or}
 use Rattle.std.proofs.lemmas.Bool.{le-ltb, lt-ltb}
 use Rattle.std.proofs.lemmas.List.Sums.{fails_before_first, passes_at_first}
 use Rattle.meaning.specs.Limits.{block_words}
 use Rattle.meaning.specs.Places.{places_from, bit_set}
-use Rattle.meaning.proofs.Deciding.{le_or_lt}
+use Rattle.meaning.proofs.Deciding.{le_or_lt, eq_or_ne}
 use Rattle.meaning.proofs.Counting.{Lowest, places_none, places_same, none_passes, lowest_is, is_lowest}
+use Rattle.meaning.proofs.Bitmaps.{bit_zero}
 use Rattle.bits.proofs.Words.{bit_and_lem, bit_not}
+use Rattle.bits.proofs.LowestBit.{lowest}
 use Rattle.search.specs.Search.{first_of}
 
 module _ (t : ℕ → Bool) where
@@ -66,10 +69,25 @@ first_same : (t u : ℕ → Bool) (n : ℕ) → ((i : ℕ) → i < n → t i ≡
 first_same t u n a = rw (places_same t u 0 n (λ i h. rw zero-add (a i h)))
 
 -- ## The lowest bit of `w & !v`, which has the bits of w that v has not
-pub first_of_one : (k w v : ℕ) → w < 2 ^ k → v < 2 ^ k → first_of (bit_set (bit_and w (2 ^ k - 1 - v))) k ≡ first_of (λ i. bit_set w i && not (bit_set v i)) k
-first_of_one k w v hw hv =
+pub first_and_not : (k w v : ℕ) → w < 2 ^ k → v < 2 ^ k → first_of (bit_set (bit_and w (2 ^ k - 1 - v))) k ≡ first_of (λ i. bit_set w i && not (bit_set v i)) k
+first_and_not k w v hw hv =
     first_same (bit_set (bit_and w (2 ^ k - 1 - v))) (λ i. bit_set w i && not (bit_set v i)) k
     (λ i h. bit_and_lem w (2 ^ k - 1 - v) i ∙ ap (λ (x : Bool). bit_set w i && x) (bit_not k v i hv h))
+
+-- the lowest set bit, or the width
+first_bit : (k w : ℕ) → w < 2 ^ k → count_trailing_zeros k w ≡ unwrap_or (first_of (bit_set w) k) k
+first_bit k w h = ⊎_elim
+    (λ (e : w ≡ 0). rw (e, trailing_of_zero k) (ap (λ (x : Option ℕ). unwrap_or x k) (first_none (bit_set 0) k (λ i l. bit_zero i))))
+    (λ (ne : w ≢ 0).
+    let low = lowest k w ne h in
+    ap (λ (x : Option ℕ). unwrap_or x k) (first_found (bit_set w) k (count_trailing_zeros k w) low.within low.is_set low.none_before))
+    (eq_or_ne w 0)
+
+-- `w & !v` has the bits of w that v has not
+pub first_of_one : (k w v : ℕ) → w < 2 ^ k → v < 2 ^ k
+    → count_trailing_zeros k (bit_and w (2 ^ k - 1 - v)) ≡ unwrap_or (first_of (λ i. bit_set w i && not (bit_set v i)) k) k
+first_of_one k w v hw hv =
+    first_bit k (bit_and w (2 ^ k - 1 - v)) (omega (arith, and_le_l w (2 ^ k - 1 - v))) ∙ ap (λ (x : Option ℕ). unwrap_or x k) (first_and_not k w v hw hv)
 
 -- ## One block more: u is the test in block b
 module _ (t u : ℕ → Bool) (b : ℕ) (same : (i : ℕ) → i < block_words → t (block_words * b + i) ≡ u i) (none : NoneBelow t (block_words * b)) where

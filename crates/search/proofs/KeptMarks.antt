@@ -1,5 +1,5 @@
 -- A bitmap of which only the marks that pass a test are kept, word by word. Assumes nothing.
-use mathlib.Core.Path.{◌≡◌, sym, ap, ◌∙◌}
+use mathlib.Core.Path.{◌≡◌, refl, sym, ap, ◌∙◌}
 use mathlib.Core.Logic.{⊎_elim, ◌≢◌}
 use mathlib.Core.Bool.{Bool, false, ◌&&◌}
 use mathlib.Core.List.{List}
@@ -23,6 +23,9 @@ module _ (t : ℕ → Bool) (before : List ℕ) where
     pub same_length : length now ≡ length before
     pub done : (q : ℕ) → q < block_words * b → marked now q ≡ marked before q && t q
     pub rest : (q : ℕ) → block_words * b ≤ q → marked now q ≡ marked before q
+
+  pub keeping_start : Keeping before 0
+  keeping_start = record { same_length = refl; done = λ q h. absurd (omega arith); rest = λ q h. refl }
 
   module _ (now : List ℕ) (b : ℕ) (k : Keeping now b) where
     pub word-left : (i : ℕ) → i < block_words → bit_set (get_or now b 0) i ≡ marked before (block_words * b + i)

@@ -33,11 +33,11 @@ paper_said (Same b) = the_same b
 paper_said (Collected top objects blocks) = collected (record { top = top; objects = objects; blocks = blocks })
 
 -- the answer on paper
-abbrev pub said_of : Result Answer Refusal → Answered OnPaper
+abbrev pub said_of : Result (Answer Said) Refusal → Answered OnPaper
 said_of = answer_of (λ a. paper_said a.said)
 
 -- the record after the call: the one given back, else the one at entry
-abbrev pub store_after : Mem → Result Answer Refusal → PaperStore
+abbrev pub store_after : Mem → Result (Answer Said) Refusal → PaperStore
 store_after m (Ok a) = store_of a.store
 store_after m (Err e) = m.store
 
@@ -56,7 +56,7 @@ call_of (Ask s) = ask s
 call_of (SameCall s t) = same s t
 
 -- m is the memory at entry, x the call on paper; r the answer, heap and slots the lent memory at exit
-pub record Leaves (m : Mem) (x : Answered (Did Mem)) (r : Result Answer Refusal) (heap slots : List ℕ) : Type 0 where
+pub record Leaves (m : Mem) (x : Answered (Did Mem)) (r : Result (Answer Said) Refusal) (heap slots : List ℕ) : Type 0 where
   pub answer_is : said_of r ≡ said x
   pub store_is : store_after m r ≡ (after m x).store
   pub heap_is : heap ≡ (after m x).heap
@@ -70,7 +70,8 @@ slot_of slots s = cond (ltb s (length slots)) (Ok s) (Err (NoSlot s))
 abbrev pub ticked_of : Store → Store
 ticked_of s = record { top = s.top; calls = tick s.calls }
 
-abbrev pub told_of : Store → Said → Answer
+-- that record and what is said, whatever it is
+abbrev pub told_of : {T : Type 0} → Store → T → Answer T
 told_of s a = record { store = ticked_of s; said = a }
 
 -- the bare collection of a store's heap, top and slots, with what is brought
@@ -81,7 +82,7 @@ abbrev pub brought_of : List ℕ → List ℕ → List ℕ → List ℕ → Brou
 brought_of marks order live offsets = record { marks = marks; order = order; live = live; offsets = offsets }
 
 -- the collect call: also the marks and the tables at exit are those of the collection
-pub record LeavesCollected (m : Mem) (b : Brought) (r : Result Answer Refusal) (heap slots marks live offsets : List ℕ) : Type 0 where
+pub record LeavesCollected (m : Mem) (b : Brought) (r : Result (Answer Said) Refusal) (heap slots marks live offsets : List ℕ) : Type 0 where
   pub leaves : Leaves m (collects m b) r heap slots
   pub marks_are : marks ≡ (collection_of m b).marks
   pub live_is : live ≡ (collection_of m b).live

@@ -52,11 +52,11 @@ impl fmt::Display for Said {
     }
 }
 
-// The record that an accepted call gives back, and what it says. After a refusal the caller's record stands.
+// The record that an accepted call gives back, and what is said of it. After a refusal the caller's record stands.
 #[derive(Clone, Copy, Debug, PartialEq, Eq)]
-pub struct Answer {
+pub struct Answer<T = Said> {
     pub store: Store,
-    pub said: Said,
+    pub said: T,
 }
 
 // A call with its numbers, in the order of the functions' parameters. A collection is no such call: it borrows more.
@@ -103,8 +103,8 @@ pub fn slot(roots: &[u32], number: u32) -> Result<usize, Refusal>
     Ok(number as usize)
 }
 
-// What an accepted call says; the count wraps on purpose.
-pub fn told(store: Store, said: Said) -> Answer
+// What an accepted call says; the count wraps on purpose. It may be anything, also a number and a place, for which `Said` has no case.
+pub fn told<T>(store: Store, said: T) -> Answer<T>
     ensures { result ≡ told_of store said }
 {
     Answer {

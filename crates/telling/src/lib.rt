@@ -4,7 +4,7 @@
 
 ghost use Rattle.std.specs.Prelude.{ℕ, ◌+◌, ◌*◌, ◌≡◌, ◌≤◌, List};
 ghost use Rattle.std.proofs.lemmas.List.Edits.{sets};
-ghost use Rattle.refusals.specs.Paper.{answer_of};
+ghost use Rattle.refusals.specs.Paper.{number_of, place_of, answer_by};
 ghost use Rattle.objects.specs.Examined.{counts_of};
 ghost use Rattle.tables.specs.Paper.{found_of};
 ghost use Rattle.compactor.specs.Collects.{totals_of};
@@ -90,25 +90,62 @@ pub fn refused(number: u32, place: u32) -> u64
     u64::from(number) + 256 * u64::from(place)
 }
 
+// Why a call is refused, as C is told it.
+pub trait Reason {
+    ghost number: { Self → ℕ };
+
+    ghost place: { Self → ℕ };
+
+    fn told(self) -> u64
+        ensures { result ≡ number self + 256 * place self };
+}
+
+impl Reason for Refusal {
+    ghost number = { number_of };
+
+    ghost place = { place_of };
+
+    fn told(self) -> u64 {
+        refused(self.number(), self.place())
+    }
+}
+
+// Any two numbers, also where no call of this library is refused by them.
+#[derive(Clone, Copy, Debug, PartialEq, Eq)]
+pub struct Numbers {
+    pub number: u32,
+    pub place: u32,
+}
+
+impl Reason for Numbers {
+    ghost number = { λ r. r.number };
+
+    ghost place = { λ r. r.place };
+
+    fn told(self) -> u64 {
+        refused(self.number, self.place)
+    }
+}
+
 // The number alone, for a call that has no values.
-pub fn code(answer: Result<Said, Refusal>) -> u64
-    ensures { result ≡ code_of (answer_of paper_said answer) }
+pub fn code<E: Reason>(answer: Result<Said, E>) -> u64
+    ensures { result ≡ code_of (answer_by E.number E.place paper_said answer) }
 {
     match answer {
         Ok(_) => 0,
-        Err(refusal) => refused(refusal.number(), refusal.place()),
+        Err(reason) => reason.told(),
     }
 }
 
 // The number, and the values in the lent words.
-pub fn say<T: Values>(answer: Result<T, Refusal>, out: &mut [u64; 4]) -> u64
-    ensures { Says (λ ws. ws) (answer_of T.words answer) out.old result out.new }
+pub fn say<T: Values, E: Reason>(answer: Result<T, E>, out: &mut [u64; 4]) -> u64
+    ensures { Says (λ ws. ws) (answer_by E.number E.place T.words answer) out.old result out.new }
 {
     match answer {
         Ok(values) => {
             values.put(out);
             0
         }
-        Err(refusal) => refused(refusal.number(), refusal.place()),
+        Err(reason) => reason.told(),
     }
 }

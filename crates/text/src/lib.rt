@@ -1,7 +1,7 @@
 // The lines that the program prints, written into a buffer that the caller lends.
 #![tactic(auto)]
 
-ghost use Rattle.std.specs.Prelude.{◌+◌, ◌*◌, ◌≤◌, ◌++◌, length};
+ghost use Rattle.std.specs.Prelude.{[], ◌+◌, ◌*◌, ◌≤◌, ◌<◌, ◌++◌, ◌∷◌, length};
 ghost use Rattle.meaning.specs.Answers.{gives};
 ghost use Rattle.meaning.specs.Text.{decimal, spaced, newline, refused_line, lines};
 ghost use Rattle.text.specs.Placed.{Placed, Puts};
@@ -15,7 +15,9 @@ struct Line<'a> {
     at: usize,
 }
 
+// All inlined, so that the place need not go through memory.
 impl Line<'_> {
+    #[inline(always)]
     fn put(&mut self, text: &str)
         requires { self.old.at + length text.now ≤ length self.old.out.now }
         ensures { Puts self.old self.new text.now (length text.now) }
@@ -25,16 +27,38 @@ impl Line<'_> {
         self.at = end;
     }
 
-    // In decimals, by itoa: a `write!` may answer an error, and no clause says when it does not.
+    #[inline(always)]
+    fn put_digit(&mut self, digit: u32)
+        requires { (digit < 10) × (self.old.at + 1 ≤ length self.old.out.now) }
+        ensures { Puts self.old self.new ((48 + digit) ∷ []) 1 }
+    {
+        let end = self.at + 1;
+        self.out[self.at..end].copy_from_slice(&[48 + digit as u8]);
+        self.at = end;
+    }
+
+    // In decimals, by itoa: a `write!` may answer an error, and no clause says when it does not. One digit or two are put by
+    // themselves, since itoa takes longer for so few.
+    #[inline(always)]
     fn put_number(&mut self, n: u32)
         requires { self.old.at + 10 ≤ length self.old.out.now }
         ensures { Puts self.old self.new (decimal n) 10 }
     {
+        if n < 10 {
+            self.put_digit(n);
+            return;
+        }
+        if n < 100 {
+            self.put_digit(n / 10);
+            self.put_digit(n % 10);
+            return;
+        }
         let mut buffer = Buffer::new();
         self.put(buffer.format(n));
     }
 
     // Each after a space.
+    #[inline(always)]
     fn put_numbers(&mut self, numbers: &[u32])
         requires { self.old.at + 11 * length numbers.now ≤ length self.old.out.now }
         ensures { Puts self.old self.new (spaced numbers.now) (11 * length numbers.now) }
@@ -45,6 +69,7 @@ impl Line<'_> {
         }
     }
 
+    #[inline(always)]
     fn put_words(&mut self, name: &str, words: &[u32])
         requires { self.old.at + length name.now + 11 * length words.now + 1 ≤ length self.old.out.now }
         ensures { Puts self.old self.new (name.now ++ spaced words.now ++ newline) (length name.now + 11 * length words.now + 1) }

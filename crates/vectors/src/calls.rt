@@ -38,8 +38,10 @@ struct Left<'a> {
     digest: Digest,
 }
 
+// All inlined, so that what is left from step to step need not go through memory.
 impl Left<'_> {
     // After a refusal the record stands.
+    #[inline(always)]
     fn note(&mut self, answer: Result<Answer, Refusal>) {
         if let Ok(answer) = answer {
             self.store = answer.store;
@@ -54,21 +56,23 @@ impl Left<'_> {
     }
 
     // The step that is a call.
+    #[inline(always)]
     fn call(&mut self, call: Call) {
         let answer = calling::answer(self.store, self.heap, self.roots, call);
         self.note(answer);
     }
 
     // The step that is a collection: the lengths of marks, order, live and offset table; then these. The digest takes its tables too.
+    #[inline(always)]
     fn collect(&mut self, case: &mut Case) -> Option<()> {
-        let mut marks = [0u64; TABLE_ROOM];
-        let mut order = [0u32; TABLE_ROOM];
-        let mut live = [0u64; TABLE_ROOM];
-        let mut offsets = [0u32; TABLE_ROOM];
         let blocks = case.next()?;
         let steps = case.next()?;
         let lives = case.next()?;
         let entries = case.next()?;
+        let mut marks = [0u64; TABLE_ROOM];
+        let mut order = [0u32; TABLE_ROOM];
+        let mut live = [0u64; TABLE_ROOM];
+        let mut offsets = [0u32; TABLE_ROOM];
         let marks = case.fill(blocks, &mut marks)?;
         let order = case.fill(steps, &mut order)?;
         let live = case.fill(lives, &mut live)?;
@@ -82,6 +86,7 @@ impl Left<'_> {
     }
 
     // The next step of the case; None where there is none.
+    #[inline(always)]
     fn step(&mut self, case: &mut Case) -> Option<()> {
         let number = case.next()?;
         if number == COLLECT {
@@ -93,9 +98,37 @@ impl Left<'_> {
     }
 }
 
+// Past the next step, untaken; None where there is none.
+fn pass(case: &mut Case) -> Option<()> {
+    let number = case.next::<u32>()?;
+    if number < COLLECT {
+        return case.pass::<u32>(3, 3);
+    }
+    if COLLECT < number {
+        return None;
+    }
+    let blocks = case.next()?;
+    let steps = case.next()?;
+    let lives = case.next()?;
+    let entries = case.next()?;
+    case.pass::<u64>(blocks, TABLE_ROOM)?;
+    case.pass::<u32>(steps, TABLE_ROOM)?;
+    case.pass::<u64>(lives, TABLE_ROOM)?;
+    case.pass::<u32>(entries, TABLE_ROOM)
+}
+
+// Some where what is left of the case is heap, roots and so many steps. Seen before any step is taken, since one costs as much as
+// the heap is large.
+fn whole(mut case: Case, heap_words: u32, slots: u32, steps: u32) -> Option<()> {
+    case.pass::<u32>(heap_words, HEAP_ROOM)?;
+    case.pass::<u32>(slots, ROOT_ROOM)?;
+    for _ in 0..steps {
+        pass(&mut case)?;
+    }
+    case.end()
+}
+
 pub fn calls<W: Write>(out: &mut W, mut case: Case) -> Option<io::Result<()>> {
-    let mut heap = [0u32; HEAP_ROOM];
-    let mut roots = [0u32; ROOT_ROOM];
     let store = Store {
         top: case.next()?,
         calls: case.next()?,
@@ -103,6 +136,9 @@ pub fn calls<W: Write>(out: &mut W, mut case: Case) -> Option<io::Result<()>> {
     let heap_words = case.next()?;
     let slots = case.next()?;
     let steps = case.next::<u32>()?;
+    whole(case, heap_words, slots, steps)?;
+    let mut heap = [0u32; HEAP_ROOM];
+    let mut roots = [0u32; ROOT_ROOM];
     let mut left = Left {
         heap: case.fill(heap_words, &mut heap)?,
         roots: case.fill(slots, &mut roots)?,
@@ -113,7 +149,6 @@ pub fn calls<W: Write>(out: &mut W, mut case: Case) -> Option<io::Result<()>> {
     for _ in 0..steps {
         left.step(&mut case)?;
     }
-    case.end()?;
     let Store { top, calls } = left.store;
     let digest = left.digest;
     Some(match left.said {

@@ -10,9 +10,16 @@ pub const TABLE_ROOM: usize = 144;
 // What a case holds: how one is read, and the bytes after it. None where the bytes end before it does.
 pub trait Held: Copy {
     fn read(bytes: &[u8]) -> Option<(Self, &[u8])>;
+
+    // How many bytes n of it have.
+    fn bytes(n: u32) -> usize;
 }
 
 impl Held for u32 {
+    fn bytes(n: u32) -> usize {
+        4 * (n as usize)
+    }
+
     fn read(bytes: &[u8]) -> Option<(u32, &[u8])> {
         let (first, rest) = bytes.split_first_chunk::<4>()?;
         Some((u32::from_le_bytes(*first), rest))
@@ -20,6 +27,10 @@ impl Held for u32 {
 }
 
 impl Held for u64 {
+    fn bytes(n: u32) -> usize {
+        8 * (n as usize)
+    }
+
     fn read(bytes: &[u8]) -> Option<(u64, &[u8])> {
         let (first, rest) = bytes.split_first_chunk::<8>()?;
         Some((u64::from_le_bytes(*first), rest))
@@ -46,6 +57,15 @@ impl Case<'_> {
             *entry = self.next()?;
         }
         Some(part)
+    }
+
+    // Past n entries, unread; None where a buffer of so much room has fewer, or the case ends before.
+    pub fn pass<T: Held>(&mut self, n: u32, room: usize) -> Option<()> {
+        if room < n as usize {
+            return None;
+        }
+        self.rest = self.rest.get(T::bytes(n)..)?;
+        Some(())
     }
 
     // Some where nothing is left.

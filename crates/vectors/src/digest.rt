@@ -26,7 +26,9 @@ impl Digest {
         self.words(&[number, u64::from(a), u64::from(b), u64::from(c)])
     }
 
-    // What a call says, or why it is refused, as a number and three values, in the stored cases' numbers.
+    // What a call says, or why it is refused, as a number and three values, in the stored cases' numbers. Inlined, so that what is said
+    // is not copied on the way.
+    #[inline(always)]
     pub fn said(self, said: Result<Said, Refusal>) -> Digest {
         match said {
             Ok(Said::Done) => self.four(0, 0, 0, 0),

@@ -11,20 +11,26 @@ mod case;
 mod digest;
 mod run;
 
-// Runs the next case, or what the input still has of it; false where there is none, or where one is longer than any may be.
-fn next<R: Read, W: Write>(input: &mut R, out: &mut W) -> io::Result<bool> {
-    let mut length = [0u8; 4];
-    if read_full(input, &mut length) < 4 {
-        return Ok(false);
-    }
+// Runs the case of so many bytes, or what the input still has of it; false where it is longer than any may be. By itself, so that
+// the buffer is made once for a case.
+fn run_case<R: Read, W: Write>(input: &mut R, out: &mut W, bytes: usize) -> io::Result<bool> {
     let mut space = [0u8; 65536];
-    let Some(buffer) = space.get_mut(..u32::from_le_bytes(length) as usize) else {
+    let Some(buffer) = space.get_mut(..bytes) else {
         run::skipped(out)?;
         return Ok(false);
     };
     let n = read_full(input, buffer);
     run::run(out, &buffer[..n])?;
     Ok(true)
+}
+
+// Runs the next case; false where there is none.
+fn next<R: Read, W: Write>(input: &mut R, out: &mut W) -> io::Result<bool> {
+    let mut length = [0u8; 4];
+    if read_full(input, &mut length) < 4 {
+        return Ok(false);
+    }
+    run_case(input, out, u32::from_le_bytes(length) as usize)
 }
 
 // Nothing says that the input ends, so the cases are counted too.

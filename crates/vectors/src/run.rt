@@ -36,10 +36,10 @@ fn say<W: Write>(out: &mut W, mut case: Case) -> Option<io::Result<()>> {
 
 // Kind 0: only reads heap and marks, so that a fault in reading shows by itself.
 fn read<W: Write>(out: &mut W, mut case: Case) -> Option<io::Result<()>> {
-    let mut heap = [0u32; HEAP_ROOM];
-    let mut marks = [0u64; TABLE_ROOM];
     let heap_words = case.next()?;
     let blocks = case.next()?;
+    let mut heap = [0u32; HEAP_ROOM];
+    let mut marks = [0u64; TABLE_ROOM];
     let heap = case.fill(heap_words, &mut heap)?;
     let marks = case.fill(blocks, &mut marks)?;
     case.end()?;
@@ -49,13 +49,13 @@ fn read<W: Write>(out: &mut W, mut case: Case) -> Option<io::Result<()>> {
 
 // Kind 1: the check. The top, then heap, roots and marks.
 fn check<W: Write>(out: &mut W, mut case: Case) -> Option<io::Result<()>> {
-    let mut heap = [0u32; HEAP_ROOM];
-    let mut roots = [0u32; ROOT_ROOM];
-    let mut marks = [0u64; TABLE_ROOM];
     let top = case.next()?;
     let heap_words = case.next()?;
     let slots = case.next()?;
     let blocks = case.next()?;
+    let mut heap = [0u32; HEAP_ROOM];
+    let mut roots = [0u32; ROOT_ROOM];
+    let mut marks = [0u64; TABLE_ROOM];
     let heap = case.fill(heap_words, &mut heap)?;
     let roots = case.fill(slots, &mut roots)?;
     let marks = case.fill(blocks, &mut marks)?;
@@ -85,11 +85,11 @@ impl fmt::Display for Found {
 
 // Kind 2: both lookups of a place. The lengths of the live and the offset table, the place, then the tables.
 fn lookups<W: Write>(out: &mut W, mut case: Case) -> Option<io::Result<()>> {
-    let mut live = [0u64; TABLE_ROOM];
-    let mut offsets = [0u32; TABLE_ROOM];
     let blocks = case.next()?;
     let entries = case.next()?;
     let place = Place::at(case.next()?);
+    let mut live = [0u64; TABLE_ROOM];
+    let mut offsets = [0u32; TABLE_ROOM];
     let live = case.fill(blocks, &mut live)?;
     let offsets = case.fill(entries, &mut offsets)?;
     case.end()?;
@@ -100,12 +100,6 @@ fn lookups<W: Write>(out: &mut W, mut case: Case) -> Option<io::Result<()>> {
 
 // Kind 3: the collection. The top, then heap, roots, marks, order, live and offset table. The line has a digest of all that is left.
 fn collect<W: Write>(out: &mut W, mut case: Case) -> Option<io::Result<()>> {
-    let mut heap = [0u32; HEAP_ROOM];
-    let mut roots = [0u32; ROOT_ROOM];
-    let mut marks = [0u64; TABLE_ROOM];
-    let mut order = [0u32; TABLE_ROOM];
-    let mut live = [0u64; TABLE_ROOM];
-    let mut offsets = [0u32; TABLE_ROOM];
     let top = case.next()?;
     let heap_words = case.next()?;
     let slots = case.next()?;
@@ -113,6 +107,12 @@ fn collect<W: Write>(out: &mut W, mut case: Case) -> Option<io::Result<()>> {
     let steps = case.next()?;
     let lives = case.next()?;
     let entries = case.next()?;
+    let mut heap = [0u32; HEAP_ROOM];
+    let mut roots = [0u32; ROOT_ROOM];
+    let mut marks = [0u64; TABLE_ROOM];
+    let mut order = [0u32; TABLE_ROOM];
+    let mut live = [0u64; TABLE_ROOM];
+    let mut offsets = [0u32; TABLE_ROOM];
     let heap = case.fill(heap_words, &mut heap)?;
     let roots = case.fill(slots, &mut roots)?;
     let marks = case.fill(blocks, &mut marks)?;

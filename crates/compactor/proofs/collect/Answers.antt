@@ -4,7 +4,7 @@ use mathlib.Core.Bool.{true, false}
 use Rattle.std.proofs.lemmas.Result.{err_from_is_err_and, MatchResult-at_ok, MatchResult-at_err}
 use Rattle.meaning.specs.Collect.{sizes_fit, tables_fit}
 use Rattle.compactor.specs.Phases.{PreparedAs}
-use Rattle.compactor.proofs.Preparing.{Fit, prepared_as}
+use Rattle.compactor.proofs.Preparing.{Fit, surveyed_references, prepared_as}
 use Rattle.compactor.proofs.Collecting.{collects_unfit, collects_refused, sorted_exact, sorted_finishable, collects-done}
 use Rattle.compactor.proofs.collect.Goals as goal
 use Rattle.compactor.proofs.collect.Goals.{Else-not-tables_fit, After-prepare}
@@ -35,7 +35,7 @@ fit c =
 
 -- what preparing says, of what the collection was given
 said : (c : After-prepare) → let a = c.args in let n = c.prepare.new in
-    PreparedAs a.heap.now a.top a.roots.now a.marks.now a.order.now a.live.now a.offsets.now n.live n.offsets n.survey.fields c.prepare.result
+    PreparedAs a.heap.now a.top a.roots.now a.marks.now a.order.now a.live.now a.offsets.now n.live n.offsets n.survey c.prepare.result
 said c =
     let same = MatchResult-at_ok _ _ c.in_ok-given.given c.in_ok-given.was c.of.ensures in
     rw (same.0, same.1, same.2, same.3) at c.prepare.ensures
@@ -45,21 +45,21 @@ pub returns-in_err-total : goal.returns-in_err-total
 returns-in_err-total c =
     let p = err_from_is_err_and c.from_residual-in_err-total.result c.from_residual-in_err-total.ensures.1 in
     rw (p.1, p.2)
-    (collects_refused (fit (goal.at.returns-in_err-total c).Else-not-tables_fit) _ _ c.prepare.new.survey.fields _
+    (collects_refused (fit (goal.at.returns-in_err-total c).Else-not-tables_fit) _ _ c.prepare.new.survey _
     (prepared_as _ _ _ _ _ _ _ _ _ _ _ _ c.in_err-total.was (said (goal.at.returns-in_err-total c).After-prepare)))
 
--- accepted: sorted, and the references
+-- accepted: sorted, and the survey
 pub invariant_of-tables : goal.invariant_of-tables
 invariant_of-tables c =
-    let (sorted, references) = prepared_as _ _ _ _ _ _ _ _ _ _ _ _ c.in_ok-total.was (said (goal.at.invariant_of-tables c).After-prepare) in
-    record { exact = sorted_exact (fit (goal.at.invariant_of-tables c).Else-not-tables_fit) sorted references }
+    let (sorted, surveyed) = prepared_as _ _ _ _ _ _ _ _ _ _ _ _ c.in_ok-total.was (said (goal.at.invariant_of-tables c).After-prepare) in
+    record { exact = sorted_exact (fit (goal.at.invariant_of-tables c).Else-not-tables_fit) sorted (surveyed_references surveyed) }
 
 pub finish-requires : goal.finish-requires
 finish-requires c =
-    let (sorted, references) = prepared_as _ _ _ _ _ _ _ _ _ _ _ _ c.in_ok-total.was (said (goal.at.finish-requires c).After-prepare) in
-    sorted_finishable (fit (goal.at.finish-requires c).Else-not-tables_fit) sorted references
+    let (sorted, surveyed) = prepared_as _ _ _ _ _ _ _ _ _ _ _ _ c.in_ok-total.was (said (goal.at.finish-requires c).After-prepare) in
+    sorted_finishable (fit (goal.at.finish-requires c).Else-not-tables_fit) sorted (surveyed_references surveyed)
 
 pub returns : goal.returns
 returns c =
-    let (sorted, references) = prepared_as _ _ _ _ _ _ _ _ _ _ _ _ c.in_ok-total.was (said (goal.at.returns c).After-prepare) in
-    collects-done (fit (goal.at.returns c).Else-not-tables_fit) sorted references c.finish.ensures
+    let (sorted, surveyed) = prepared_as _ _ _ _ _ _ _ _ _ _ _ _ c.in_ok-total.was (said (goal.at.returns c).After-prepare) in
+    collects-done (fit (goal.at.returns c).Else-not-tables_fit) sorted (surveyed_references surveyed) c.finish.ensures

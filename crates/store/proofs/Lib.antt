@@ -1,0 +1,2 @@
+-- What follows from the definitions, in files named after what they say.
+pub mod TopInHeap

@@ -1,7 +1,7 @@
 -- What the phases leave, one after the other, is meaning's collection: answer and every buffer. Assumes nothing.
 use mathlib.Core.Path.{◌≡◌, refl, sym, ap, ap₂, ◌∙◌, subst, fun_ext}
 use mathlib.Core.Bool.{Bool, true, false, ◌&&◌}
-use mathlib.Core.Logic.{⊎_elim}
+use mathlib.Core.Logic.{◌⊎◌, ⊎_elim}
 use mathlib.Core.List.{List, ◌++◌, map}
 use Prim.Native.Nat.{ℕ, ◌-◌, ◌*◌, ◌/◌, ◌≤◌, ◌<◌}
 use native.Mathlib.Omega.{arith}
@@ -29,10 +29,9 @@ use Rattle.std.proofs.Common.{Ok, Err}
 use Rattle.refusals.specs.Paper.{number_of, place_of as reported}
 use Rattle.refusals.specs.declared.Refusal.{Refusal}
 use Rattle.refusals.specs.declared.Refusal.TheVariants.{Sizes}
-use Rattle.walk.specs.declared.Survey.{Survey}
 use Rattle.compactor.specs.declared.Totals.{Totals}
 use Rattle.compactor.specs.Collects.{collected_totals, Collects}
-use Rattle.compactor.specs.Phases.{Sorted, References, PreparedAs, Finishable, Finished}
+use Rattle.compactor.specs.Phases.{Sorted, References, Finishable, Finished}
 use Rattle.compactor.proofs.Preparing.{Fit, fit-sizes, fit-tables, places_cut}
 
 -- ## Refused
@@ -65,10 +64,12 @@ module _ {heap : List ℕ} {top : ℕ} {roots marks order live offsets : List �
         offsets_are = s.tabled.entries ∙ ap (offset_table (live_at (marked marks) s.objects)) (sym (fit-tables f).same);
       })
 
-  -- refused by 2 to 6
-  pub collects_refused : (live' offsets' : List ℕ) (survey : Survey) (e : Refusal) → PreparedAs heap top roots marks order live offsets live' offsets' survey (Err e)
+  -- refused by 2 to 6, whatever else is known of a sorted heap
+  pub collects_refused : (live' offsets' : List ℕ) (e : Refusal) {Known : Sorted heap top roots marks order live live' offsets' (Err e) → Type 0}
+      → ((judged heap top roots marks (parse heap top) ≡ refused (number_of e) (reported e)) × (live' ≡ live) × (offsets' ≡ offsets))
+      ⊎ ((s : Sorted heap top roots marks order live live' offsets' (Err e)) × Known s)
       → Collects (collect heap top roots marks order live offsets) (Err e) heap roots marks live' offsets'
-  collects_refused live' offsets' survey e p = ⊎_elim (unsound live' offsets' e) (λ x. misordered live' offsets' e x.0) p
+  collects_refused live' offsets' e p = ⊎_elim (unsound live' offsets' e) (λ x. misordered live' offsets' e x.0) p
 
 -- ## Accepted
 module _ {heap : List ℕ} {top : ℕ} {roots marks order live₀ offsets₀ : List ℕ} (f : Fit heap top roots marks order live₀ offsets₀)

@@ -45,7 +45,7 @@ pub returns-in_err-total : goal.returns-in_err-total
 returns-in_err-total c =
     let p = err_from_is_err_and c.from_residual-in_err-total.result c.from_residual-in_err-total.ensures.1 in
     rw (p.1, p.2)
-    (collects_refused (fit (goal.at.returns-in_err-total c).Else-not-tables_fit) _ _ c.prepare.new.survey _
+    (collects_refused (fit (goal.at.returns-in_err-total c).Else-not-tables_fit) _ _ _
     (prepared_as _ _ _ _ _ _ _ _ _ _ _ _ c.in_err-total.was (said (goal.at.returns-in_err-total c).After-prepare)))
 
 -- accepted: sorted, and the survey
